@@ -12,7 +12,7 @@ use crate::command::Command;
 use crate::events::Events;
 use crate::numbers::NumberCache;
 use quick_cache_model::{Call, Reply};
-use quick_cache_shard::Going;
+use quick_cache_shard::Ruled;
 use quick_cache_unsync::{poke, set};
 use std::alloc::Allocator;
 
@@ -23,8 +23,8 @@ fn insert<A: Allocator>(
     value: u64,
     events: &mut Events<A>,
 ) -> Reply<u64, u64>
-    ensures serves { Calls (hooks_in ⟦<NumberCache<A> as Going>⟧.goes cache.old)
-        (λ calls. Serves (rules_in ⟦<NumberCache<A> as Going>⟧.goes no_touches cache.old)
+    ensures serves { Calls (hooks_in ⟦<NumberCache<A> as Ruled>⟧.goes cache.old)
+        (λ calls. Serves (rules_in ⟦<NumberCache<A> as Ruled>⟧.goes no_touches cache.old)
         cache.old.state (Call.Insert key value) result calls cache.new.state)
         events.old events.new }
     ensures same { cache.new ≡ record cache.old {
@@ -48,8 +48,8 @@ fn replace<A: Allocator>(
     soft: bool,
     events: &mut Events<A>,
 ) -> Reply<u64, u64>
-    ensures serves { Calls (hooks_in ⟦<NumberCache<A> as Going>⟧.goes cache.old)
-        (λ calls. Serves (rules_in ⟦<NumberCache<A> as Going>⟧.goes no_touches cache.old)
+    ensures serves { Calls (hooks_in ⟦<NumberCache<A> as Ruled>⟧.goes cache.old)
+        (λ calls. Serves (rules_in ⟦<NumberCache<A> as Ruled>⟧.goes no_touches cache.old)
         cache.old.state (Call.Replace key value soft) result calls cache.new.state)
         events.old events.new }
     ensures same { cache.new ≡ record cache.old {
@@ -90,8 +90,8 @@ fn guarded<A: Allocator>(
     given: Option<u64>,
     events: &mut Events<A>,
 ) -> Reply<u64, u64>
-    ensures serves { Calls (hooks_in ⟦<NumberCache<A> as Going>⟧.goes cache.old)
-        (λ calls. Serves (rules_in ⟦<NumberCache<A> as Going>⟧.goes no_touches cache.old)
+    ensures serves { Calls (hooks_in ⟦<NumberCache<A> as Ruled>⟧.goes cache.old)
+        (λ calls. Serves (rules_in ⟦<NumberCache<A> as Ruled>⟧.goes no_touches cache.old)
         cache.old.state (Call.Guarded key given) result calls cache.new.state)
         events.old events.new }
     ensures same { cache.new ≡ record cache.old {
@@ -121,8 +121,8 @@ fn load<A: Allocator>(
     given: Option<u64>,
     events: &mut Events<A>,
 ) -> Reply<u64, u64>
-    ensures serves { Calls (hooks_in ⟦<NumberCache<A> as Going>⟧.goes cache.old)
-        (λ calls. Serves (rules_in ⟦<NumberCache<A> as Going>⟧.goes no_touches cache.old)
+    ensures serves { Calls (hooks_in ⟦<NumberCache<A> as Ruled>⟧.goes cache.old)
+        (λ calls. Serves (rules_in ⟦<NumberCache<A> as Ruled>⟧.goes no_touches cache.old)
         cache.old.state (Call.Load key given) result calls cache.new.state)
         events.old events.new }
     ensures same { cache.new ≡ record cache.old {
@@ -167,8 +167,8 @@ pub fn make_call<A: Allocator>(
     events: &mut Events<A>,
 ) -> Reply<u64, u64>
     requires asks { IsSome (call_of command) }
-    ensures serves { Calls (hooks_in ⟦<NumberCache<A> as Going>⟧.goes cache.old)
-        (λ calls. ServesAsked (rules_in ⟦<NumberCache<A> as Going>⟧.goes no_touches cache.old)
+    ensures serves { Calls (hooks_in ⟦<NumberCache<A> as Ruled>⟧.goes cache.old)
+        (λ calls. ServesAsked (rules_in ⟦<NumberCache<A> as Ruled>⟧.goes no_touches cache.old)
         cache.old.state command result calls cache.new.state)
         events.old events.new }
     ensures same { cache.new ≡ record cache.old {

@@ -16,7 +16,7 @@ use crate::lines::{Line, read_line};
 use crate::numbers::NumberCache;
 use crate::serving::print::print;
 use crate::serving::session::{Outcome, Session};
-use quick_cache_shard::Going;
+use quick_cache_shard::Ruled;
 use std::alloc::Allocator;
 use std::io::{self, BufReader, ErrorKind, Read, Write};
 
@@ -42,7 +42,7 @@ trait LineServer {
 
 impl<A: Allocator + Copy> LineServer for Session<A> {
     ghost serves_line = { λ old line served new printed. ServesLine A
-        (rules_in ⟦<NumberCache<A> as Going>⟧.goes no_touches)
+        (rules_in ⟦<NumberCache<A> as Ruled>⟧.goes no_touches)
         old.cache line served new.cache printed };
 
     fn serve_line<W: Write>(&mut self, line: &[u8], writer: &mut W) -> io::Result<bool> {

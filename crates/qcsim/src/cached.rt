@@ -6,7 +6,7 @@ ghost use Rattle.qcsim.specs.Simulation.{Simulates, HasHits, counted, made_by};
 
 use qcsim_parts::Trace;
 use quick_cache_options::Options;
-use quick_cache_shard::Going;
+use quick_cache_shard::Ruled;
 use quick_cache_unsync::{
     Cache, DefaultHashBuilder, DefaultLifecycle, Lifecycle, Refusal, UnitWeighter, Weighter,
 };
@@ -19,7 +19,7 @@ fn ask_for<K: Eq + Hash + Copy + Drop, We: Weighter<K, ()>, B: BuildHasher, L: L
     key: K,
 ) -> Result<bool, Refusal>
     ensures asks { L.steady cache.old.lifecycle → IfOk result (λ found. Simulates
-        (rules_in ⟦<Cache<K, (), We, B, L> as Going>⟧.goes no_touches cache.old) K.eq cache.old.state (key ∷ []) (counted found) cache.new.state) }
+        (rules_in ⟦<Cache<K, (), We, B, L> as Ruled>⟧.goes no_touches cache.old) K.eq cache.old.state (key ∷ []) (counted found) cache.new.state) }
     ensures same_weigher { cache.new.weigher ≡ cache.old.weigher }
     ensures same_builder { cache.new.builder ≡ cache.old.builder }
     ensures same_lifecycle { cache.new.lifecycle ≡ cache.old.lifecycle }
@@ -42,7 +42,7 @@ fn ask_for_all<
     L: Lifecycle<K, ()>,
 >(cache: &mut Cache<K, (), We, B, L>, keys: &[K]) -> Result<u64, Refusal>
     ensures asks { L.steady cache.old.lifecycle → IfOk result (λ hits. Simulates
-        (rules_in ⟦<Cache<K, (), We, B, L> as Going>⟧.goes no_touches cache.old) K.eq cache.old.state keys.now hits cache.new.state) }
+        (rules_in ⟦<Cache<K, (), We, B, L> as Ruled>⟧.goes no_touches cache.old) K.eq cache.old.state keys.now hits cache.new.state) }
 {
     let mut hits = 0;
     let mut rest = keys;

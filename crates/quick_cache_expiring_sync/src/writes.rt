@@ -17,7 +17,7 @@ use crate::shared::SharedExpiring;
 use quick_cache_expiring::{ByValue, Lasting, end_of};
 use quick_cache_guard::EntryResult;
 use quick_cache_model::{Equivalent, Lifecycle, Refusal, ToKey, Weighter};
-use quick_cache_shard::{EntryAction, Going};
+use quick_cache_shard::{EntryAction, Ruled};
 use quick_cache_sync::Cache;
 use std::alloc::Allocator;
 use std::hash::{BuildHasher, Hash};
@@ -51,7 +51,7 @@ impl<
         requires fits { L.fits key (lasting_of value (end_of now life)) }
         // It is the insert of the value with its end.
         ensures answers { FromSome L.Lifecycle K.eq (λ shard.
-            InsertsAloneBy ⟦<Cache<K, Lasting<V>, ByValue<We>, B, L, A> as Going>⟧.goes K.eq shard
+            InsertsAloneBy ⟦<Cache<K, Lasting<V>, ByValue<We>, B, L, A> as Ruled>⟧.goes K.eq shard
             L.RequestState.is_default key (lasting_of value (end_of now life)) result) }
     {
         let until = end_of(now, life);

@@ -19,7 +19,7 @@ use quick_cache_loading::sharing::{Maker, SharedPlaceholder};
 use quick_cache_model::{Lifecycle, Refusal, Weighter};
 use quick_cache_options::options::Options;
 use quick_cache_options::sizes::ShardSizes;
-use quick_cache_shard::{CacheShard, Going, Keyed};
+use quick_cache_shard::{CacheShard, Keyed, Ruled};
 use std::alloc::{Allocator, Global};
 use std::hash::{BuildHasher, Hash};
 use std::marker::Model;
@@ -67,7 +67,7 @@ impl<
     B: BuildHasher,
     L: Lifecycle<K, V>,
     A: Allocator,
-> Going for LockedShard<K, V, We, B, L, A> {
+> Ruled for LockedShard<K, V, We, B, L, A> {
     ghost use Rattle.quick_cache_shard.specs.Goes.{goes_by};
 
     type Key = K;

@@ -8,7 +8,7 @@ ghost use Rattle.quick_cache_shard.specs.Copies.{ClonesAreEqual};
 ghost use Rattle.quick_cache_shard.specs.Shard.{KeepsTerms};
 
 use quick_cache_model::{Call, Lifecycle, Reply, Weighter};
-use quick_cache_shard::Going;
+use quick_cache_shard::Ruled;
 use quick_cache_unsync::Cache;
 use std::alloc::Allocator;
 use std::hash::{BuildHasher, Hash};
@@ -42,7 +42,7 @@ impl<
         requires callable { IfAsks (λ asked. F.IsAlwaysCallable asked) call }
 
         // Where pinning is steady, and a predicate answers as a pure test does.
-        ensures step { MakesAsked F.Fn ⟦<Cache<K, V, We, B, L, A> as Going>⟧.goes K.eq K.is_clone
+        ensures step { MakesAsked F.Fn ⟦<Cache<K, V, We, B, L, A> as Ruled>⟧.goes K.eq K.is_clone
             V.is_clone cache.old state.old call result cache.new state.new }
         // It takes room for one entry at most. Where no clone fails, it is refused for want of
         // memory only where there is no room.

@@ -10,7 +10,7 @@ ghost use Rattle.quick_cache_shard.specs.Shard.{KeepsTerms};
 
 use crate::calls::CallMaker;
 use quick_cache_model::{Call, Lifecycle, Reply, Weighter};
-use quick_cache_shard::Going;
+use quick_cache_shard::Ruled;
 use quick_cache_unsync::Cache;
 use std::alloc::Allocator;
 use std::hash::{BuildHasher, Hash};
@@ -44,7 +44,7 @@ impl<
         requires callable { IfAsks (λ asked. F.IsAlwaysCallable asked) call }
         requires room { vec_len replies.old < vec_capacity replies.old }
         ensures made { (reply : Reply K V M) × (replies.new.items ≡ replies.old.items ++ reply ∷ [])
-            × MakesAsked F.Fn ⟦<Cache<K, V, We, B, L, A> as Going>⟧.goes K.eq K.is_clone V.is_clone
+            × MakesAsked F.Fn ⟦<Cache<K, V, We, B, L, A> as Ruled>⟧.goes K.eq K.is_clone V.is_clone
             cache.old state.old call reply cache.new state.new
             × (AlwaysClones V.is_infallible → IsAnswered call reply)
             × (AlwaysClones K.is_infallible → AlwaysClones V.is_infallible
@@ -70,7 +70,7 @@ impl<
         requires callable { All (IfAsks (λ asked. F.IsAlwaysCallable asked)) calls.items }
         requires none { replies.items ≡ [] }
         requires room { length calls.items ≤ vec_capacity replies }
-        ensures runs { RunsAsked F.Fn ⟦<Cache<K, V, We, B, L, A> as Going>⟧.goes K.eq K.is_clone
+        ensures runs { RunsAsked F.Fn ⟦<Cache<K, V, We, B, L, A> as Ruled>⟧.goes K.eq K.is_clone
             V.is_clone cache.old state.old calls.items result.items cache.new state.new }
         ensures same { KeepsTerms cache.old cache.new }
         ensures answered { AlwaysClones V.is_infallible → AreAnswered calls.items result.items }
@@ -112,10 +112,10 @@ pub fn run<
     requires callable { All (IfAsks (λ asked. F.IsAlwaysCallable asked)) calls.items }
 
     // Where pinning is steady, and each predicate answers as a pure test does.
-    ensures runs { RunsCallsBy F.Fn ⟦<Cache<K, V, We, B, L, A> as Going>⟧.goes K.eq K.is_clone
+    ensures runs { RunsCallsBy F.Fn ⟦<Cache<K, V, We, B, L, A> as Ruled>⟧.goes K.eq K.is_clone
         V.is_clone cache.old state.old calls.items result cache.new state.new }
     // So no pair is lost, made, or told of twice.
-    ensures conserves { ConservesCallsBy F.Fn ⟦<Cache<K, V, We, B, L, A> as Going>⟧.goes K.eq
+    ensures conserves { ConservesCallsBy F.Fn ⟦<Cache<K, V, We, B, L, A> as Ruled>⟧.goes K.eq
         K.is_clone V.is_clone cache.old state.old calls.items result cache.new state.new }
     ensures same { KeepsTerms cache.old cache.new }
     // A look is refused only where a clone fails.

@@ -8,7 +8,7 @@ ghost use Rattle.quick_cache_unsync.specs.Touches.{no_touches};
 
 use crate::{Call, Reply, run};
 use quick_cache_model::{Lifecycle, Weighter};
-use quick_cache_shard::Going;
+use quick_cache_shard::Ruled;
 use quick_cache_unsync::Cache;
 use std::alloc::Allocator;
 use std::hash::{BuildHasher, Hash};
@@ -37,7 +37,7 @@ pub fn scan<
 ) -> Result<Vec<Reply<K, V, M>, M>, (Vec<Reply<K, V, M>, M>, Vec<Call<K, V, F>, M>)>
     requires keys { All (IfLoads (ClonesAreEqual K.eq K.is_clone)) calls.items }
     requires callable { All (IfAsks (λ asked. F.IsAlwaysCallable asked)) calls.items }
-    ensures keeps { let rules = rules_in ⟦<Cache<K, V, We, B, L, A> as Going>⟧.goes no_touches
+    ensures keeps { let rules = rules_in ⟦<Cache<K, V, We, B, L, A> as Ruled>⟧.goes no_touches
         cache.old in
         L.steady cache.old.lifecycle → IsReadyForScan rules cache.old.state
         → AreFresh rules cache.old.state calls.items

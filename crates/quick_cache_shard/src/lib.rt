@@ -23,5 +23,5 @@ pub use shard::CacheShard;
 pub use walking::saved::SavedIter;
 pub use walking::walk::{GhostIter, Iter, RingIter};
 pub use walking::walk_from::IterFrom;
-pub use words::{Going, Keyed, Rowed};
+pub use words::{Keyed, Ruled, Typed};
 pub use writing::lending::RefMut;

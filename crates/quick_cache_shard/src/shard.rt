@@ -17,7 +17,7 @@ ghost use Rattle.quick_cache_policy.specs.Copies.{ClonesAreEqual, IsCopyOf, Find
 ghost use Rattle.quick_cache_shard.specs.Shard.{UpToOrder, IsSoundShard, HasItem, made_with, terms_of};
 ghost use Rattle.quick_cache_model.specs.Refusals.{slots_taken, slot_count};
 
-use crate::words::{Going, Keyed, Rowed};
+use crate::words::{Keyed, Ruled, Typed};
 use quick_cache_model::{Equivalent, Lifecycle, Refusal, Token, Weighter, hash_of};
 use quick_cache_options::sizes::{ghost_limit, hot_target};
 use quick_cache_policy::{Contents, SharedPlaceholder, Terms};
@@ -82,7 +82,7 @@ impl<K: Eq + Hash, V, We, B: BuildHasher, L, P: SharedPlaceholder<K>, A: Allocat
         s.contents };
 }
 
-impl<K: Eq + Hash, V, We, B: BuildHasher, L, P: SharedPlaceholder<K>, A: Allocator> Rowed
+impl<K: Eq + Hash, V, We, B: BuildHasher, L, P: SharedPlaceholder<K>, A: Allocator> Typed
     for CacheShard<K, V, We, B, L, P, A> {
     ghost use Rattle.quick_cache_shard.specs.Lent.{row_of};
 
@@ -106,7 +106,7 @@ impl<
     L: Lifecycle<K, V>,
     P: SharedPlaceholder<K>,
     A: Allocator,
-> Going for CacheShard<K, V, We, B, L, P, A> {
+> Ruled for CacheShard<K, V, We, B, L, P, A> {
     ghost use Rattle.quick_cache_shard.specs.Goes.{goes_by};
 
     type Key = K;
@@ -265,7 +265,7 @@ impl<K: Eq + Hash, V, We, B: BuildHasher, L, P: SharedPlaceholder<K>, A: Allocat
     #[inline(always)]
     pub fn get<Q: Equivalent<K>>(&mut self, hash: u64, query: &Q) -> Option<&V>
         requires hash_is { hash ≡ ⟦<Self as Keyed>⟧.hash self.old.builder (Q.hash_input query.now) }
-        ensures* looks_up { sem 𝓛 (ends_so ⟦<Self as Rowed>⟧.lender_row self.entry
+        ensures* looks_up { sem 𝓛 (ends_so ⟦<Self as Typed>⟧.lender_row self.entry
             (λ new. UpToOrder (LooksUp (Q.equivalent query.now) self.old.state (λ item. item.value)
             (option_copied result)) new.state
             × (new ≡ record self.old { state = new.state }))) }
@@ -304,7 +304,7 @@ impl<K: Eq + Hash, V, We, B: BuildHasher, L, P: SharedPlaceholder<K>, A: Allocat
     /// The pair under the query, as `get` finds its value.
     pub fn get_key_value<Q: Equivalent<K>>(&mut self, hash: u64, query: &Q) -> Option<(&K, &V)>
         requires hash_is { hash ≡ ⟦<Self as Keyed>⟧.hash self.old.builder (Q.hash_input query.now) }
-        ensures* looks_up { sem 𝓛 (ends_so ⟦<Self as Rowed>⟧.lender_row self.entry
+        ensures* looks_up { sem 𝓛 (ends_so ⟦<Self as Typed>⟧.lender_row self.entry
             (λ new. UpToOrder (LooksUp (Q.equivalent query.now) self.old.state pair_of
             (option_map deref_pair result)) new.state
             × (new ≡ record self.old { state = new.state }))) }

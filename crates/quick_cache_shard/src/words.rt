@@ -4,7 +4,7 @@ ghost use Rattle.std.specs.Borrow.{RattleType};
 ghost use Rattle.quick_cache_shard.specs.Goes.{Goes};
 
 /// What a contract calls the type of a value that is lent: the logic's description of it.
-pub trait Rowed {
+pub trait Typed {
     ghost lender_row: { RattleType };
 }
 
@@ -16,7 +16,7 @@ pub trait Keyed {
 }
 
 /// What a contract calls the rules and the hooks that a cache goes by.
-pub trait Going {
+pub trait Ruled {
     type Key;
 
     type Value;

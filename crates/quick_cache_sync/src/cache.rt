@@ -12,7 +12,7 @@ use quick_cache_locked::LockedShard;
 use quick_cache_model::{DefaultHashBuilder, Lifecycle, Refusal, UnitWeighter, Weighter};
 use quick_cache_options::sizes::shard_sizes;
 use quick_cache_options::{Options, OptionsBuilder};
-use quick_cache_shard::Going;
+use quick_cache_shard::Ruled;
 use std::alloc::{Allocator, Global};
 use std::fmt::{Debug, Formatter, Write};
 use std::hash::{BuildHasher, Hash};
@@ -219,7 +219,7 @@ impl<
     pub fn insert<R: Wait>(&self, rt: &R, key: K, value: V) -> Result<(), (K, V, Refusal)>
         requires fits { L.fits key value }
         ensures answers { FromSome L.Lifecycle K.eq (λ shard.
-            InsertsAloneBy ⟦<Self as Going>⟧.goes K.eq shard
+            InsertsAloneBy ⟦<Self as Ruled>⟧.goes K.eq shard
             L.RequestState.is_default key value result) }
     {
         let mut state = L::RequestState::default();
@@ -236,7 +236,7 @@ impl<
     pub fn put<R: Wait>(&self, rt: &R, key: K, value: V) -> Result<(), Refusal>
         requires fits { L.fits key value }
         ensures answers { FromSome L.Lifecycle K.eq (λ shard.
-            InsertsAloneBy ⟦<Self as Going>⟧.goes K.eq shard
+            InsertsAloneBy ⟦<Self as Ruled>⟧.goes K.eq shard
             L.RequestState.is_default key value (with_pair key value result)) }
     {
         match self.insert(rt, key, value) {
@@ -262,7 +262,7 @@ impl<
     ) -> Result<(), (K, V, Refusal)>
         requires fits { L.fits key value }
         ensures answers { FromSome L.Lifecycle K.eq (λ shard.
-            InsertsSoBy ⟦<Self as Going>⟧.goes K.eq shard
+            InsertsSoBy ⟦<Self as Ruled>⟧.goes K.eq shard
             state.old key value result state.new) }
     {
         self.shard_of(&key).write(rt).insert(key, value, state)
@@ -276,7 +276,7 @@ impl<
     B: BuildHasher,
     L: Lifecycle<K, V>,
     A: Allocator,
-> Going for Cache<K, V, We, B, L, A> {
+> Ruled for Cache<K, V, We, B, L, A> {
     ghost use Rattle.quick_cache_shard.specs.Goes.{goes_by};
 
     type Key = K;

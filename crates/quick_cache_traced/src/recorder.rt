@@ -13,7 +13,7 @@ use crate::looks::{copy_of, look_at_pair, look_twice};
 use crate::seat::Seat;
 use quick_cache_model::{Lifecycle, Refusal, Reply, Weighter};
 use quick_cache_options::options::Options;
-use quick_cache_shard::Going;
+use quick_cache_shard::Ruled;
 use quick_cache_unsync::Cache;
 use std::alloc::{Allocator, Global};
 use std::hash::{BuildHasher, Hash};
@@ -145,7 +145,7 @@ impl<
         L: Drop,
         ensures entries { result.0.items ≡ self.entries }
         ensures calls { result.1.total ≡ self.calls }
-        ensures trace { Shows ⟦<Cache<K, V, We, B, L, A> as Going>⟧.goes L.RequestState.is_default
+        ensures trace { Shows ⟦<Cache<K, V, We, B, L, A> as Ruled>⟧.goes L.RequestState.is_default
             K.eq K.is_clone V.is_clone self result.0.items }
         ensures counted { result.1.total ≡ vec_len result.0 }
     {
@@ -160,7 +160,7 @@ impl<
 
     /// Tells what always holds of it.
     fn facts(&self)
-        ensures { IsKept ⟦<Cache<K, V, We, B, L, A> as Going>⟧.goes L.RequestState.is_default K.eq
+        ensures { IsKept ⟦<Cache<K, V, We, B, L, A> as Ruled>⟧.goes L.RequestState.is_default K.eq
             K.is_clone V.is_clone self.now }
     {
         let _ = &self.calls;
@@ -170,7 +170,7 @@ impl<
     /// for them are made first.
     pub fn get(&mut self, seat: &mut Seat<G>, key: &K) -> Result<Option<V>, Refusal>
         // The answer and the recorded reply both show the value that was found.
-        ensures kept { IsKept ⟦<Cache<K, V, We, B, L, A> as Going>⟧.goes L.RequestState.is_default
+        ensures kept { IsKept ⟦<Cache<K, V, We, B, L, A> as Ruled>⟧.goes L.RequestState.is_default
             K.eq K.is_clone V.is_clone self.old }
         ensures gets { IfOk result (λ answer. GetsTwice (K.eq key.now) K.is_clone V.is_clone
             key.now self.old self.new answer) }
@@ -207,17 +207,17 @@ impl<
     ///
     /// The pair and why. No call was made then, and none is counted.
     pub fn insert(&mut self, seat: &mut Seat<G>, key: K, value: V) -> Result<(), (K, V, Refusal)>
-        ensures kept { IsKept ⟦<Cache<K, V, We, B, L, A> as Going>⟧.goes L.RequestState.is_default
+        ensures kept { IsKept ⟦<Cache<K, V, We, B, L, A> as Ruled>⟧.goes L.RequestState.is_default
             K.eq K.is_clone V.is_clone self.old }
         ensures inserts { OnOk result (IsDoneAlone L.RequestState.is_default
-            (InsertsBy ⟦<Cache<K, V, We, B, L, A> as Going>⟧.goes no_touches self.old.cache K.eq key
+            (InsertsBy ⟦<Cache<K, V, We, B, L, A> as Ruled>⟧.goes no_touches self.old.cache K.eq key
             value result self.new.cache)) }
         ensures notes { OnOk result
             (NotesInsert K.is_clone V.is_clone key value self.old self.new) }
         ensures counts { OnOk result (Adds self.old self.new seat.old seat.new) }
         ensures back { IfErr result (λ back. (back.0 ≡ key) × (back.1 ≡ value)) }
         ensures why { IfErr result (λ back. MayRefuseInsert
-            (rules_in ⟦<Cache<K, V, We, B, L, A> as Going>⟧.goes no_touches self.old.cache) K.eq key
+            (rules_in ⟦<Cache<K, V, We, B, L, A> as Ruled>⟧.goes no_touches self.old.cache) K.eq key
             self.old.cache.state back.2) }
         ensures refused { OnErr result (Unmade self.old self.new × (seat.new ≡ seat.old)) }
         ensures options { self.new.options ≡ self.old.options }
@@ -246,7 +246,7 @@ impl<
     /// Takes the item under the key out. The clones and room for the entry are made first. The list
     /// has the pair itself, and the answer clones of its key and of its value.
     pub fn remove(&mut self, seat: &mut Seat<G>, key: &K) -> Result<Option<(K, V)>, Refusal>
-        ensures kept { IsKept ⟦<Cache<K, V, We, B, L, A> as Going>⟧.goes L.RequestState.is_default
+        ensures kept { IsKept ⟦<Cache<K, V, We, B, L, A> as Ruled>⟧.goes L.RequestState.is_default
             K.eq K.is_clone V.is_clone self.old }
         ensures removes { IfOk result (λ answer. RemovesTwice (K.eq key.now)
             (hash_of B.BuildHasher B.Hasher.Hasher self.old.cache.builder

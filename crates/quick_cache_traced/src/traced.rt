@@ -13,7 +13,7 @@ use crate::recorder::Recorder;
 use crate::seat::{PARTS, Seat};
 use quick_cache_model::{Lifecycle, Refusal, Reply, Weighter};
 use quick_cache_options::options::Options;
-use quick_cache_shard::Going;
+use quick_cache_shard::Ruled;
 use quick_cache_unsync::Cache;
 use std::alloc::{Allocator, Global};
 use std::hash::{BuildHasher, Hash};
@@ -86,7 +86,7 @@ impl<
         // The answer is that of a step on the cache behind the lock, whose recorded reply shows the
         // same value.
         ensures answers { IfOk result (λ answer. WasMade {M = A}
-            ⟦<Cache<K, V, We, B, L, A> as Going>⟧.goes L.RequestState.is_default K.eq K.is_clone
+            ⟦<Cache<K, V, We, B, L, A> as Ruled>⟧.goes L.RequestState.is_default K.eq K.is_clone
             V.is_clone (λ old new. GetsTwice (K.eq key.now) K.is_clone V.is_clone key.now old new
             answer × Adds old new seat.old seat.new)) }
         ensures counts { OnOk result (seat.new ≡ record seat.old { calls = seat.old.calls + 1 }) }
@@ -109,9 +109,9 @@ impl<
         value: V,
     ) -> Result<(), (K, V, Refusal)>
         ensures answers { OnOk result (WasMade {M = A}
-            ⟦<Cache<K, V, We, B, L, A> as Going>⟧.goes L.RequestState.is_default K.eq K.is_clone
+            ⟦<Cache<K, V, We, B, L, A> as Ruled>⟧.goes L.RequestState.is_default K.eq K.is_clone
             V.is_clone (λ old new. IsDoneAlone L.RequestState.is_default
-            (InsertsBy ⟦<Cache<K, V, We, B, L, A> as Going>⟧.goes no_touches old.cache K.eq key
+            (InsertsBy ⟦<Cache<K, V, We, B, L, A> as Ruled>⟧.goes no_touches old.cache K.eq key
             value result new.cache) × NotesInsert K.is_clone V.is_clone key value old new
             × Adds old new seat.old seat.new)) }
         ensures counts { OnOk result (seat.new ≡ record seat.old { calls = seat.old.calls + 1 }) }
@@ -119,9 +119,9 @@ impl<
         ensures back { IfErr result (λ back. (back.0 ≡ key) × (back.1 ≡ value)) }
         // There was no memory for the entry, or the cache behind the lock refused the pair.
         ensures why { IfErr result (λ back. WasMade {M = A}
-            ⟦<Cache<K, V, We, B, L, A> as Going>⟧.goes L.RequestState.is_default K.eq K.is_clone
+            ⟦<Cache<K, V, We, B, L, A> as Ruled>⟧.goes L.RequestState.is_default K.eq K.is_clone
             V.is_clone (λ old new. Unmade old new × MayRefuseInsert
-            (rules_in ⟦<Cache<K, V, We, B, L, A> as Going>⟧.goes no_touches old.cache) K.eq key
+            (rules_in ⟦<Cache<K, V, We, B, L, A> as Ruled>⟧.goes no_touches old.cache) K.eq key
             old.cache.state back.2)) }
     {
         self.recorder.lock(rt).insert(seat, key, value)
@@ -140,7 +140,7 @@ impl<
         key: &K,
     ) -> Result<Option<(K, V)>, Refusal>
         ensures answers { IfOk result (λ answer. WasMade {M = A}
-            ⟦<Cache<K, V, We, B, L, A> as Going>⟧.goes L.RequestState.is_default K.eq K.is_clone
+            ⟦<Cache<K, V, We, B, L, A> as Ruled>⟧.goes L.RequestState.is_default K.eq K.is_clone
             V.is_clone (λ old new. RemovesTwice (K.eq key.now)
             (hash_of B.BuildHasher B.Hasher.Hasher old.cache.builder (K.Hash.hash_input key.now))
             K.is_clone V.is_clone key.now old new answer
@@ -167,7 +167,7 @@ impl<
         L: Drop,
         requires { G.parts ≡ PARTS }
         // The list is one of a run of the cache for one thread, from an empty cache.
-        ensures trace { IfOk result (λ list. FromSome ⟦<Cache<K, V, We, B, L, A> as Going>⟧.goes
+        ensures trace { IfOk result (λ list. FromSome ⟦<Cache<K, V, We, B, L, A> as Ruled>⟧.goes
             L.RequestState.is_default K.eq K.is_clone V.is_clone list.items) }
         // It is as long as the seats' counts together.
         ensures calls { IfOk result (λ list. vec_len list ≡ calls_of seats.items) }

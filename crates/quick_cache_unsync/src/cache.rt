@@ -21,7 +21,7 @@ use quick_cache_model::{
 use quick_cache_options::options::{
     DEFAULT_GHOST_ALLOCATION, DEFAULT_HOT_ALLOCATION, DEFAULT_MARK_CUT,
 };
-use quick_cache_shard::{CacheShard, Going, Keyed, Placeholder, Rowed};
+use quick_cache_shard::{CacheShard, Keyed, Placeholder, Ruled, Typed};
 use std::alloc::{Allocator, Global};
 use std::fmt::{Debug, Formatter, Write};
 use std::hash::{BuildHasher, Hash};
@@ -48,7 +48,7 @@ impl<K: Eq + Hash, V, We, B: BuildHasher, L, A: Allocator> Model for Cache<K, V,
     ghost view = { λ cache. cache.shard };
 }
 
-impl<K: Eq + Hash, V, We, B: BuildHasher, L, A: Allocator> Rowed for Cache<K, V, We, B, L, A> {
+impl<K: Eq + Hash, V, We, B: BuildHasher, L, A: Allocator> Typed for Cache<K, V, We, B, L, A> {
     ghost use Rattle.quick_cache_unsync.specs.Lent.{row_of};
 
     ghost lender_row = { row_of K.row V.row We.row B.row L.row A.row B.Hasher.row K.eq
@@ -68,7 +68,7 @@ impl<
     B: BuildHasher,
     L: Lifecycle<K, V>,
     A: Allocator,
-> Going for Cache<K, V, We, B, L, A> {
+> Ruled for Cache<K, V, We, B, L, A> {
     ghost use Rattle.quick_cache_shard.specs.Goes.{goes_by};
 
     type Key = K;
@@ -250,7 +250,7 @@ impl<K: Eq + Hash, V, We, B: BuildHasher, L, A: Allocator> Cache<K, V, We, B, L,
     /// takes no memory.
     #[inline(always)]
     pub fn get<Q: Equivalent<K>>(&mut self, query: &Q) -> Option<&V>
-        ensures* looks_up { sem 𝓛 (ends_so ⟦<Self as Rowed>⟧.lender_row self.entry
+        ensures* looks_up { sem 𝓛 (ends_so ⟦<Self as Typed>⟧.lender_row self.entry
             (λ new. UpToOrder (LooksUp (Q.equivalent query.now) self.old.state
             (λ item. item.value) (option_copied result)) new.state
             × (new ≡ record self.old { state = new.state }))) }

@@ -7,7 +7,7 @@ ghost use Rattle.quick_cache_unsync.specs.Touches.{no_touches};
 
 use crate::cache::Cache;
 use quick_cache_model::{Lifecycle, Refusal, Weighter};
-use quick_cache_shard::Going;
+use quick_cache_shard::Ruled;
 use std::alloc::Allocator;
 use std::hash::{BuildHasher, Hash};
 
@@ -32,7 +32,7 @@ impl<
         requires can { I.can_next pairs }
         requires ends { IsFinite (I.remaining pairs) }
         // Each pair is an insert of its own, until one is refused or none is left.
-        ensures fills { InsertsInTurn ⟦<Self as Going>⟧.goes L.RequestState.is_default K.eq
+        ensures fills { InsertsInTurn ⟦<Self as Ruled>⟧.goes L.RequestState.is_default K.eq
             I.next_gives pairs self.old result self.new }
         ensures same { KeepsTerms self.old self.new }
     {

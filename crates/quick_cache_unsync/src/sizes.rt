@@ -10,7 +10,7 @@ ghost use Rattle.quick_cache_unsync.specs.Touches.{no_touches};
 use crate::cache::Cache;
 use quick_cache_model::{Lifecycle, Refusal, Weighter};
 use quick_cache_options::options::Options;
-use quick_cache_shard::{CacheShard, Going};
+use quick_cache_shard::{CacheShard, Ruled};
 use std::alloc::Allocator;
 use std::hash::{BuildHasher, Hash};
 
@@ -68,7 +68,7 @@ impl<
     pub fn set_capacity(&mut self, capacity: u64)
         // Where pinning is steady, it is a step of its definition.
         ensures sets { IsDoneAlone L.RequestState.is_default
-            (SetsCapacityBy ⟦<Self as Going>⟧.goes no_touches self.old capacity self.new) }
+            (SetsCapacityBy ⟦<Self as Ruled>⟧.goes no_touches self.old capacity self.new) }
         ensures sizes { Rescales capacity self.old.state self.new.state }
         ensures room { self.old.room ≤ self.new.room }
         // How much work it takes, whatever is pinned.
@@ -82,7 +82,7 @@ impl<
     /// Sets the weight that the cache may hold, as `set_capacity` does, and hands what leaves to
     /// the lifecycle, with this request state.
     pub fn set_capacity_with_lifecycle(&mut self, capacity: u64, state: &mut L::RequestState)
-        ensures sets { SetsCapacityBy ⟦<Self as Going>⟧.goes no_touches self.old capacity
+        ensures sets { SetsCapacityBy ⟦<Self as Ruled>⟧.goes no_touches self.old capacity
             self.new state.old state.new }
         ensures sizes { Rescales capacity self.old.state self.new.state }
         ensures room { self.old.room ≤ self.new.room }

@@ -8,7 +8,7 @@ ghost use Rattle.quick_cache_shard.specs.Inserts.{with_pair};
 
 use crate::cache::Cache;
 use quick_cache_model::{Lifecycle, Refusal, Weighter};
-use quick_cache_shard::Going;
+use quick_cache_shard::Ruled;
 use std::alloc::Allocator;
 use std::hash::{BuildHasher, Hash};
 
@@ -29,7 +29,7 @@ impl<
     pub fn insert(&mut self, key: K, value: V) -> Result<(), (K, V, Refusal)>
         // Where pinning is steady, the write is a step of its definition.
         ensures inserts { IsDoneAlone L.RequestState.is_default
-            (InsertsBy ⟦<Self as Going>⟧.goes no_touches self.old K.eq key value result self.new) }
+            (InsertsBy ⟦<Self as Ruled>⟧.goes no_touches self.old K.eq key value result self.new) }
         // It takes room for one entry at most, and asks for memory only where there is no room.
         ensures room { self.old.room ≤ self.new.room + 1 }
         ensures asks { IfErr result (λ back. back.2 ≡ Refusal.Memory → self.old.room ≡ 0) }
@@ -51,7 +51,7 @@ impl<
     pub fn put(&mut self, key: K, value: V) -> Result<(), Refusal>
         // It is the insert of the pair, with the same room and work.
         ensures puts { IsDoneAlone L.RequestState.is_default
-            (InsertsBy ⟦<Self as Going>⟧.goes no_touches self.old K.eq key value
+            (InsertsBy ⟦<Self as Ruled>⟧.goes no_touches self.old K.eq key value
             (with_pair key value result) self.new) }
         ensures room { self.old.room ≤ self.new.room + 1 }
         ensures asks { IfErr result (λ refusal. refusal ≡ Refusal.Memory → self.old.room ≡ 0) }
@@ -80,7 +80,7 @@ impl<
         state: &mut L::RequestState,
     ) -> Result<(), (K, V, Refusal)>
         // Where pinning is steady, the write is a step of its definition.
-        ensures inserts { InsertsBy ⟦<Self as Going>⟧.goes no_touches self.old K.eq key value result
+        ensures inserts { InsertsBy ⟦<Self as Ruled>⟧.goes no_touches self.old K.eq key value result
             self.new state.old state.new }
         // It takes room for one entry at most, and asks for memory only where there is no room.
         ensures room { self.old.room ≤ self.new.room + 1 }
@@ -102,7 +102,7 @@ impl<
     pub fn replace(&mut self, key: K, value: V, soft: bool) -> Result<(), (K, V)>
         // Where pinning is steady, the write is a step of its definition. It is never refused.
         ensures replaces { IsDoneAlone L.RequestState.is_default
-            (ReplacesBy ⟦<Self as Going>⟧.goes no_touches self.old K.eq soft key value result
+            (ReplacesBy ⟦<Self as Ruled>⟧.goes no_touches self.old K.eq soft key value result
             self.new) }
         // It takes no room.
         ensures room { self.old.room ≤ self.new.room }
@@ -130,7 +130,7 @@ impl<
         state: &mut L::RequestState,
     ) -> Result<(), (K, V)>
         // Where pinning is steady, the write is a step of its definition. It is never refused.
-        ensures replaces { ReplacesBy ⟦<Self as Going>⟧.goes no_touches self.old K.eq soft
+        ensures replaces { ReplacesBy ⟦<Self as Ruled>⟧.goes no_touches self.old K.eq soft
             key value result self.new state.old state.new }
         // It takes no room.
         ensures room { self.old.room ≤ self.new.room }

@@ -7,7 +7,7 @@ ghost use Rattle.quick_cache_unsync.specs.Steps.{FillsIfThereBy};
 ghost use Rattle.quick_cache_unsync.specs.Touches.{no_touches};
 
 use quick_cache_model::{Equivalent, ToKey};
-use quick_cache_shard::Going;
+use quick_cache_shard::Ruled;
 use quick_cache_unsync::{Cache, Guard, Lifecycle, LoadError, NotLoaded, Refusal, Weighter};
 use std::hash::{BuildHasher, Hash};
 
@@ -144,7 +144,7 @@ pub fn fill_alone<
     L: Lifecycle<K, V>,
 >(guard: Guard<'_, K, V, We, B, L>, value: V)
     ensures { IsDoneAlone L.RequestState.is_default
-        (FillsIfThereBy ⟦<Cache<K, V, We, B, L> as Going>⟧.goes no_touches
+        (FillsIfThereBy ⟦<Cache<K, V, We, B, L> as Ruled>⟧.goes no_touches
         guard.entry.cache.now guard.entry.ticket value guard.exit.0.now) }
 {
     guard.insert(value);

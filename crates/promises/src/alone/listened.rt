@@ -10,7 +10,7 @@ use quick_cache_listeners::{
     OnLeaveWhy, Pin, PinBy, PinHeld, Request, SharedTallies,
 };
 use quick_cache_model::{Lifecycle, Weighter};
-use quick_cache_shard::Going;
+use quick_cache_shard::Ruled;
 use quick_cache_unsync::{Cache, Refusal};
 use std::hash::{BuildHasher, Hash};
 use std::rc::Rc;
@@ -108,7 +108,7 @@ pub fn insert_from_the_beginning<
     L: ListenerWhy<K, V>,
 >(cache: &mut Cache<K, V, We, B, OnLeaveWhy<L>>, key: K, value: V) -> Result<(), (K, V, Refusal)>
     ensures { IsDoneAlone (λ request. request.stage ≡ Stage.Fresh)
-        (InsertsBy ⟦<Cache<K, V, We, B, OnLeaveWhy<L>> as Going>⟧.goes no_touches cache.old K.eq key
+        (InsertsBy ⟦<Cache<K, V, We, B, OnLeaveWhy<L>> as Ruled>⟧.goes no_touches cache.old K.eq key
         value result cache.new) }
 {
     cache.insert(key, value)

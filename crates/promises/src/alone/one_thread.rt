@@ -11,7 +11,7 @@ ghost use Rattle.quick_cache_unsync.specs.Alone.{IsDoneAlone};
 ghost use Rattle.quick_cache_shard.specs.Steps.{ReplacesBy};
 
 use quick_cache_base::laws::{eviction_law, removal_law};
-use quick_cache_shard::{Going, NoTouches};
+use quick_cache_shard::{NoTouches, Ruled};
 use quick_cache_unsync::{Cache, Lifecycle, Options, Refusal, Weighter};
 use std::alloc::Global;
 use std::hash::{BuildHasher, Hash};
@@ -199,7 +199,7 @@ pub fn replace_and_mark<
     L: Lifecycle<K, V>,
 >(cache: &mut Cache<K, V, We, B, L>, key: K, value: V) -> Result<(), (K, V)>
     ensures marks { IsDoneAlone L.RequestState.is_default
-        (ReplacesBy ⟦<Cache<K, V, We, B, L> as Going>⟧.goes no_touches cache.old K.eq false key
+        (ReplacesBy ⟦<Cache<K, V, We, B, L> as Ruled>⟧.goes no_touches cache.old K.eq false key
         value result cache.new) }
 {
     cache.replace(key, value, false)

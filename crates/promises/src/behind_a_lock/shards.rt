@@ -4,7 +4,7 @@ ghost use Rattle.std.specs.Prelude.{◌≡◌, IfSome, true};
 ghost use Rattle.quick_cache_shard.specs.Steps.{InsertsBy, ReplacesBy};
 
 use quick_cache_model::{Lifecycle, Refusal, Token, Weighter};
-use quick_cache_shard::{CacheShard, Going, InsertStrategy, SharedPlaceholder};
+use quick_cache_shard::{CacheShard, InsertStrategy, Ruled, SharedPlaceholder};
 use std::hash::{BuildHasher, Hash};
 
 /// A write by the strategy of an insert is one, and what comes back has a refusal.
@@ -21,7 +21,7 @@ pub fn insert_by_strategy<
     key: K,
     value: V,
 ) -> Result<(), (K, V, Refusal)>
-    ensures inserts { InsertsBy ⟦<CacheShard<K, V, We, B, L, P> as Going>⟧.goes P.Touch.may_count
+    ensures inserts { InsertsBy ⟦<CacheShard<K, V, We, B, L, P> as Ruled>⟧.goes P.Touch.may_count
         shard.old K.eq key value result shard.new state.old state.new }
 {
     let hash = shard.hash(&key);
@@ -46,7 +46,7 @@ pub fn replace_by_strategy<
     value: V,
     soft: bool,
 ) -> Result<(), (K, V)>
-    ensures replaces { ReplacesBy ⟦<CacheShard<K, V, We, B, L, P> as Going>⟧.goes
+    ensures replaces { ReplacesBy ⟦<CacheShard<K, V, We, B, L, P> as Ruled>⟧.goes
         P.Touch.may_count shard.old K.eq soft key value result shard.new state.old state.new }
 {
     let hash = shard.hash(&key);

@@ -6,7 +6,7 @@ ghost use Rattle.quick_cache_sync.specs.Answers.{ReplacesSoBy};
 ghost use Rattle.quick_cache_sync.specs.Shards.{shard_of_hash};
 
 use quick_cache_model::{Lifecycle, Refusal, UnitWeighter, Weighter};
-use quick_cache_shard::Going;
+use quick_cache_shard::Ruled;
 use quick_cache_sync::{Cache, DefaultLifecycle, TryError};
 use std::alloc::Global;
 use std::hash::{BuildHasher, Hash};
@@ -118,7 +118,7 @@ pub fn replace_and_mark<
 ) -> Result<(), (K, V)>
     requires fits { L.fits key value }
     ensures marks { FromSome L.Lifecycle K.eq (λ shard.
-        ReplacesSoBy ⟦<Cache<K, V, We, B, L> as Going>⟧.goes K.eq shard
+        ReplacesSoBy ⟦<Cache<K, V, We, B, L> as Ruled>⟧.goes K.eq shard
         false state.old key value result state.new) }
 {
     cache.replace_with_lifecycle(rt, key, value, false, state)

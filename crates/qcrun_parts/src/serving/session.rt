@@ -15,7 +15,7 @@ use crate::reply::Answer;
 use crate::serving::options::options_of;
 use quick_cache_model::Refusal;
 use quick_cache_options::options::OptionsBuilder;
-use quick_cache_shard::Going;
+use quick_cache_shard::Ruled;
 use quick_cache_unsync::Cache;
 use std::alloc::Allocator;
 
@@ -58,7 +58,7 @@ impl<A: Allocator + Copy> Session<A> {
     /// Serves a command. It prints nothing.
     pub fn serve(&mut self, command: Command) -> Outcome<A>
         ensures { ServesCommand
-            (rules_in ⟦<NumberCache<A> as Going>⟧.goes no_touches)
+            (rules_in ⟦<NumberCache<A> as Ruled>⟧.goes no_touches)
             self.old.cache command result self.new.cache }
     {
         let mut events = Some(Vec::new(self.alloc));

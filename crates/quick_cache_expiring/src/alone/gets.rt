@@ -8,11 +8,11 @@ ghost use Rattle.quick_cache_expiring.specs.Entries.{Drops, Expires, Gets, HasNo
 
 use crate::alone::expiring::Expiring;
 use quick_cache_model::Equivalent;
-use quick_cache_shard::Rowed;
+use quick_cache_shard::Typed;
 use std::alloc::Allocator;
 use std::hash::{BuildHasher, Hash};
 
-impl<K: Eq + Hash, V, We, B: BuildHasher, L, A: Allocator> Rowed for Expiring<K, V, We, B, L, A> {
+impl<K: Eq + Hash, V, We, B: BuildHasher, L, A: Allocator> Typed for Expiring<K, V, We, B, L, A> {
     ghost use Rattle.quick_cache_expiring.specs.Lent.{row_of};
 
     ghost lender_row = { row_of K.row V.row We.row B.row L.row A.row B.Hasher.row K.eq
@@ -52,7 +52,7 @@ impl<K: Eq + Hash, V, We, B: BuildHasher, L, A: Allocator> Expiring<K, V, We, B,
     where
         K: Drop,
         V: Drop,
-        ensures* gets { sem 𝓛 (ends_so ⟦<Self as Rowed>⟧.lender_row self.entry
+        ensures* gets { sem 𝓛 (ends_so ⟦<Self as Typed>⟧.lender_row self.entry
             (λ new. Gets (Q.equivalent query.now) now self.old (option_copied result) new)) }
     {
         if self.expires(query, now) {

@@ -8,7 +8,7 @@ use crate::alone::expiring::Expiring;
 use crate::by_value::ByValue;
 use crate::lasting::{Lasting, end_of};
 use quick_cache_model::{Lifecycle, Refusal, ToKey, Weighter};
-use quick_cache_shard::Going;
+use quick_cache_shard::Ruled;
 use quick_cache_unsync::Cache;
 use std::alloc::Allocator;
 use std::hash::{BuildHasher, Hash};
@@ -39,7 +39,7 @@ impl<
     ) -> Result<Result<bool, E>, Refusal>
         requires stands { StandsForGiven (Q.to_key_gives query.now) (Q.equivalent query.now) }
         requires loader { F.pre loader }
-        ensures loads { LoadsAt ⟦<Cache<K, Lasting<V>, ByValue<We>, B, L, A> as Going>⟧.goes
+        ensures loads { LoadsAt ⟦<Cache<K, Lasting<V>, ByValue<We>, B, L, A> as Ruled>⟧.goes
             L.RequestState.is_default (Q.equivalent query.now) (Q.to_key_gives query.now)
             (λ builder. hash_of B.BuildHasher B.Hasher.Hasher builder (Q.hash_input query.now))
             now (end_of now life) (F.post loader) self.old result self.new }

@@ -14,7 +14,7 @@ use crate::alone::expiring::Expiring;
 use crate::by_value::ByValue;
 use crate::lasting::{Lasting, end_of};
 use quick_cache_model::{Equivalent, Lifecycle, Refusal, Weighter};
-use quick_cache_shard::Going;
+use quick_cache_shard::Ruled;
 use quick_cache_unsync::Cache;
 use std::alloc::Allocator;
 use std::hash::{BuildHasher, Hash};
@@ -43,7 +43,7 @@ impl<
     ) -> Result<(), (K, Lasting<V>, Refusal)>
         // It is the insert of the value with its end.
         ensures inserts { IsDoneAlone L.RequestState.is_default
-            (InsertsBy ⟦<Cache<K, Lasting<V>, ByValue<We>, B, L, A> as Going>⟧.goes no_touches
+            (InsertsBy ⟦<Cache<K, Lasting<V>, ByValue<We>, B, L, A> as Ruled>⟧.goes no_touches
             self.old.cache K.eq key (lasting_of value (end_of now life)) result self.new.cache) }
         // It takes room for one entry at most, and asks for memory only where there is no room.
         ensures room { self.old.cache.room ≤ self.new.cache.room + 1 }
@@ -61,7 +61,7 @@ impl<
     /// and read, and one that is over is taken out. It tells whether an entry was renewed.
     pub fn touch<Q: Equivalent<K>>(&mut self, query: &Q, now: u64, life: u64) -> bool
         ensures touches { Touches
-            (rules_in ⟦<Cache<K, Lasting<V>, ByValue<We>, B, L, A> as Going>⟧.goes no_touches
+            (rules_in ⟦<Cache<K, Lasting<V>, ByValue<We>, B, L, A> as Ruled>⟧.goes no_touches
             self.old.cache) (Q.equivalent query.now) now (end_of now life) self.old result
             self.new }
     {

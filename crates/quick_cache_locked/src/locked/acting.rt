@@ -15,7 +15,7 @@ use crate::locked::LockedShard;
 use quick_cache_guard::entries::EntryShard;
 use quick_cache_loading::sharing::SharedPlaceholder;
 use quick_cache_model::{Lifecycle, Refusal, ToKey, Weighter};
-use quick_cache_shard::{EntryAction, EntryOrPlaceholder, Going, Keyed};
+use quick_cache_shard::{EntryAction, EntryOrPlaceholder, Keyed, Ruled};
 use std::alloc::Allocator;
 use std::hash::{BuildHasher, Hash};
 
@@ -38,7 +38,7 @@ impl<
         requires stands { StandsForGiven (Q.to_key_gives query.now) (Q.equivalent query.now) }
         requires callable { MayActNow F.FnMut L.fits (Q.equivalent query.now) callback.old }
         requires leaves { LeavesFit (LeavesNow F.FnMut callback.old) L.fits }
-        ensures acts { AnswersEntry F.FnMut (rules_in ⟦<Self as Going>⟧.goes any_touches self.old)
+        ensures acts { AnswersEntry F.FnMut (rules_in ⟦<Self as Ruled>⟧.goes any_touches self.old)
             (Q.equivalent query.now) callback.old self.old.state (λ placeholder. placeholder.ticket)
             (Q.to_key_gives query.now) (⟦<Self as Keyed>⟧.hash self.old.builder
             (Q.hash_input query.now)) result callback.new self.new.state }

@@ -14,7 +14,7 @@ use quick_cache_guard::{Begun, LoadingShard};
 use quick_cache_loading::sharing::SharedPlaceholder;
 use quick_cache_loading::waiting::{Ended, Filled};
 use quick_cache_model::{Equivalent, Lifecycle, Refusal, ToKey, Weighter};
-use quick_cache_shard::{Going, Keyed};
+use quick_cache_shard::{Keyed, Ruled};
 use std::alloc::Allocator;
 use std::hash::{BuildHasher, Hash};
 
@@ -78,7 +78,7 @@ impl<
         state: &mut L::RequestState,
     ) -> Result<(), V>
         requires fits { L.fits key.now value }
-        ensures ends { EndsLoadBy ⟦<Self as Going>⟧.goes any_touches self.old K.eq
+        ensures ends { EndsLoadBy ⟦<Self as Ruled>⟧.goes any_touches self.old K.eq
             placeholder.now.ticket waited key.now value result self.new state.old state.new }
         ensures places { KeepsPlaces K.eq self.old.places self.new.places }
         ensures kept { IsKept L.Lifecycle K.eq self.old }
@@ -110,7 +110,7 @@ impl<
         UpToOrder (GivesUpPlaceholder ticket old.state) new.state };
 
     // A load ended so in some shard that a lock kept. Nobody knows which one it was.
-    ghost fills = { EndsSomeLoad L.Lifecycle K.eq ⟦<Self as Going>⟧.goes any_touches };
+    ghost fills = { EndsSomeLoad L.Lifecycle K.eq ⟦<Self as Ruled>⟧.goes any_touches };
 
     fn find<Q: Equivalent<K>>(&self, query: &Q) -> Result<Option<V>, Refusal> {
         self.find(query)

@@ -11,7 +11,7 @@ ghost use Rattle.quick_cache_locked.specs.Touches.{any_touches};
 use crate::heated::Heated;
 use crate::locked::LockedShard;
 use quick_cache_model::{Lifecycle, Queue, Refusal, Weighter};
-use quick_cache_shard::{Going, SavedIter, SharedPlaceholder};
+use quick_cache_shard::{Ruled, SavedIter, SharedPlaceholder};
 use std::alloc::Allocator;
 use std::hash::{BuildHasher, Hash};
 
@@ -53,7 +53,7 @@ impl<
         mark: u8,
     ) -> Result<(), (K, V, Option<Refusal>)>
         requires fits { L.fits key value }
-        ensures restores { RestoresBy ⟦<Self as Going>⟧.goes any_touches self.old K.eq
+        ensures restores { RestoresBy ⟦<Self as Ruled>⟧.goes any_touches self.old K.eq
             key value queue mark result self.new }
         ensures places { KeepsPlaces K.eq self.old.places self.new.places }
         ensures same { KeepsTerms self.old self.new }

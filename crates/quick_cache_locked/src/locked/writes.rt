@@ -8,7 +8,7 @@ ghost use Rattle.quick_cache_shard.specs.Steps.{InsertsBy, ReplacesBy, SetsCapac
 
 use crate::locked::LockedShard;
 use quick_cache_model::{Lifecycle, Refusal, Weighter};
-use quick_cache_shard::Going;
+use quick_cache_shard::Ruled;
 use std::alloc::Allocator;
 use std::hash::{BuildHasher, Hash};
 
@@ -29,7 +29,7 @@ impl<
         state: &mut L::RequestState,
     ) -> Result<(), (K, V, Refusal)>
         requires fits { L.fits key value }
-        ensures inserts { InsertsBy ⟦<Self as Going>⟧.goes any_touches self.old K.eq key value
+        ensures inserts { InsertsBy ⟦<Self as Ruled>⟧.goes any_touches self.old K.eq key value
             result self.new state.old state.new }
         ensures places { KeepsPlaces K.eq self.old.places self.new.places }
         ensures same { KeepsTerms self.old self.new }
@@ -51,7 +51,7 @@ impl<
     ) -> Result<(), (K, V)>
         requires fits { L.fits key value }
         // It is never refused.
-        ensures replaces { ReplacesBy ⟦<Self as Going>⟧.goes any_touches self.old K.eq soft
+        ensures replaces { ReplacesBy ⟦<Self as Ruled>⟧.goes any_touches self.old K.eq soft
             key value result self.new state.old state.new }
         // The pair that comes back fits, whatever `before_evict` left of it.
         ensures fits { IfErr result (λ pair. L.fits pair.0 pair.1) }
@@ -66,7 +66,7 @@ impl<
 
     /// Sets the weight that it may hold, and evicts what is too much, with this request state.
     pub fn set_capacity(&mut self, capacity: u64, state: &mut L::RequestState)
-        ensures sets { SetsCapacityBy ⟦<Self as Going>⟧.goes any_touches self.old capacity
+        ensures sets { SetsCapacityBy ⟦<Self as Ruled>⟧.goes any_touches self.old capacity
             self.new state.old state.new }
         ensures capacity { self.new.state.capacity ≡ capacity }
         ensures places { LosesOnly self.old.places self.new.places }

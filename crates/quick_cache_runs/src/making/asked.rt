@@ -6,7 +6,7 @@ ghost use Rattle.quick_cache_runs.specs.Made.{StepsAsked};
 
 use crate::calls::CallMaker;
 use quick_cache_model::{Call, Lifecycle, Reply, Weighter};
-use quick_cache_shard::Going;
+use quick_cache_shard::Ruled;
 use quick_cache_unsync::Cache;
 use std::alloc::Allocator;
 use std::hash::{BuildHasher, Hash};
@@ -31,7 +31,7 @@ impl<
         requires callable { F.IsAlwaysCallable wanted }
 
         // Where the predicate answers as a pure test does, it is the removal by that test.
-        ensures step { StepsAsked F.Fn ⟦<Cache<K, V, We, B, L, A> as Going>⟧.goes K.eq K.is_clone
+        ensures step { StepsAsked F.Fn ⟦<Cache<K, V, We, B, L, A> as Ruled>⟧.goes K.eq K.is_clone
             V.is_clone cache.old (Call.RemoveIf key wanted) result cache.new }
         ensures room { cache.old.room ≤ cache.new.room }
         ensures same { KeepsWork cache.old cache.new }
@@ -49,7 +49,7 @@ impl<
         requires callable { F.IsAlwaysCallable keep }
 
         // Where the predicate answers as a pure test does, it is the removal by that test.
-        ensures step { StepsAsked F.Fn ⟦<Cache<K, V, We, B, L, A> as Going>⟧.goes K.eq K.is_clone
+        ensures step { StepsAsked F.Fn ⟦<Cache<K, V, We, B, L, A> as Ruled>⟧.goes K.eq K.is_clone
             V.is_clone cache.old (Call.Retain keep) result cache.new }
         ensures room { cache.old.room ≤ cache.new.room }
         ensures same { KeepsWork cache.old cache.new }

@@ -12,7 +12,7 @@ ghost use Rattle.quick_cache_shard.specs.Shard.{IsSoundShard, KeepsTerms};
 
 use crate::calls::CallMaker;
 use quick_cache_model::{Call, Lifecycle, Refusal, Reply, Weighter};
-use quick_cache_shard::Going;
+use quick_cache_shard::Ruled;
 use quick_cache_unsync::{Cache, poke};
 use std::alloc::{AllocError, Allocator};
 use std::hash::{BuildHasher, Hash};
@@ -58,7 +58,7 @@ impl<
         requires keys { ClonesAreEqual K.eq K.is_clone }
         requires absent { HasNoItem (K.eq key.now) cache.old.state }
         requires sound { IsSoundShard K.eq cache.old }
-        ensures step { MakesCall F ⟦<Cache<K, V, We, B, L, A> as Going>⟧.goes K.eq K.is_clone
+        ensures step { MakesCall F ⟦<Cache<K, V, We, B, L, A> as Ruled>⟧.goes K.eq K.is_clone
             V.is_clone cache.old state.old (Call.Guarded key.now given) result cache.new state.new }
         ensures room { cache.old.room ≤ cache.new.room + 1 }
         ensures asks { K.is_infallible key.now → NeedsRoom cache.old.room (refusal_of result) }
@@ -88,7 +88,7 @@ impl<
         state: &mut L::RequestState,
     ) -> Reply<K, V, M>
         requires keys { ClonesAreEqual K.eq K.is_clone }
-        ensures step { MakesCall F ⟦<Cache<K, V, We, B, L, A> as Going>⟧.goes K.eq K.is_clone
+        ensures step { MakesCall F ⟦<Cache<K, V, We, B, L, A> as Ruled>⟧.goes K.eq K.is_clone
             V.is_clone cache.old state.old (Call.Guarded key.now given) result cache.new state.new }
         ensures room { cache.old.room ≤ cache.new.room + 1 }
         ensures asks { K.is_infallible key.now → AlwaysClones V.is_infallible
@@ -112,7 +112,7 @@ impl<
         state: &mut L::RequestState,
     ) -> Reply<K, V, M>
         requires keys { ClonesAreEqual K.eq K.is_clone }
-        ensures step { MakesCall F ⟦<Cache<K, V, We, B, L, A> as Going>⟧.goes K.eq K.is_clone
+        ensures step { MakesCall F ⟦<Cache<K, V, We, B, L, A> as Ruled>⟧.goes K.eq K.is_clone
             V.is_clone cache.old state.old (Call.GuardedMut key.now given left) result
             cache.new state.new }
         ensures room { cache.old.room ≤ cache.new.room + 1 }
@@ -156,7 +156,7 @@ impl<
         state: &mut L::RequestState,
     ) -> Reply<K, V, M>
         requires keys { ClonesAreEqual K.eq K.is_clone }
-        ensures step { MakesCall F ⟦<Cache<K, V, We, B, L, A> as Going>⟧.goes K.eq K.is_clone
+        ensures step { MakesCall F ⟦<Cache<K, V, We, B, L, A> as Ruled>⟧.goes K.eq K.is_clone
             V.is_clone cache.old state.old (Call.Load key.now given) result cache.new state.new }
         ensures room { cache.old.room ≤ cache.new.room + 1 }
         ensures asks { K.is_infallible key.now → AlwaysClones V.is_infallible
@@ -180,7 +180,7 @@ impl<
         state: &mut L::RequestState,
     ) -> Reply<K, V, M>
         requires keys { ClonesAreEqual K.eq K.is_clone }
-        ensures step { MakesCall F ⟦<Cache<K, V, We, B, L, A> as Going>⟧.goes K.eq K.is_clone
+        ensures step { MakesCall F ⟦<Cache<K, V, We, B, L, A> as Ruled>⟧.goes K.eq K.is_clone
             V.is_clone cache.old state.old (Call.LoadMut key.now given left) result
             cache.new state.new }
         ensures room { cache.old.room ≤ cache.new.room + 1 }

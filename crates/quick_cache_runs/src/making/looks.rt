@@ -7,7 +7,7 @@ ghost use Rattle.quick_cache_shard.specs.Shard.{IsSoundShard};
 
 use crate::calls::CallMaker;
 use quick_cache_model::{Call, Lifecycle, Refusal, Reply, Weighter};
-use quick_cache_shard::Going;
+use quick_cache_shard::Ruled;
 use quick_cache_unsync::Cache;
 use std::alloc::Allocator;
 use std::hash::{BuildHasher, Hash};
@@ -25,7 +25,7 @@ impl<
     /// Looks a key up. The clone that the reply shows is made first.
     #[inline(always)]
     pub(crate) fn get(cache: &mut Cache<K, V, We, B, L, A>, key: K) -> Reply<K, V, M>
-        ensures step { StepsBy F ⟦<Cache<K, V, We, B, L, A> as Going>⟧.goes K.eq K.is_clone
+        ensures step { StepsBy F ⟦<Cache<K, V, We, B, L, A> as Ruled>⟧.goes K.eq K.is_clone
             V.is_clone cache.old (Call.Get key) result cache.new }
         ensures same { cache.new ≡ record cache.old { state = cache.new.state } }
         // A look-up is refused only where a clone fails.
@@ -42,7 +42,7 @@ impl<
     fn miss(cache: &mut Cache<K, V, We, B, L, A>, key: &K) -> Reply<K, V, M>
         requires absent { HasNoItem (K.eq key.now) cache.old.state }
         requires sound { IsSoundShard K.eq cache.old }
-        ensures step { StepsBy F ⟦<Cache<K, V, We, B, L, A> as Going>⟧.goes K.eq K.is_clone
+        ensures step { StepsBy F ⟦<Cache<K, V, We, B, L, A> as Ruled>⟧.goes K.eq K.is_clone
             V.is_clone cache.old (Call.Get key.now) result cache.new }
         ensures same { cache.new ≡ record cache.old { state = cache.new.state } }
         ensures answered { IsAnswered {F = F} (Call.Get key.now) result }
@@ -54,7 +54,7 @@ impl<
     /// Looks at a key, and shows a clone of the value.
     #[inline(never)]
     pub(crate) fn peek(cache: &Cache<K, V, We, B, L, A>, key: K) -> Reply<K, V, M>
-        ensures step { StepsBy F ⟦<Cache<K, V, We, B, L, A> as Going>⟧.goes K.eq K.is_clone
+        ensures step { StepsBy F ⟦<Cache<K, V, We, B, L, A> as Ruled>⟧.goes K.eq K.is_clone
             V.is_clone cache.now (Call.Peek key) result cache.now }
         // It is refused only where a clone fails.
         ensures answered { AlwaysClones V.is_infallible → IsAnswered {F = F} (Call.Peek key) result }
@@ -71,7 +71,7 @@ impl<
     /// Tells whether an item stands under a key.
     #[inline(never)]
     pub(crate) fn contains(cache: &Cache<K, V, We, B, L, A>, key: K) -> Reply<K, V, M>
-        ensures step { StepsBy F ⟦<Cache<K, V, We, B, L, A> as Going>⟧.goes K.eq K.is_clone
+        ensures step { StepsBy F ⟦<Cache<K, V, We, B, L, A> as Ruled>⟧.goes K.eq K.is_clone
             V.is_clone cache.now (Call.Contains key) result cache.now }
     {
         Reply::Flag(cache.contains_key(&key))
@@ -80,7 +80,7 @@ impl<
     /// Tells how often the item under a key was read.
     #[inline(never)]
     pub(crate) fn stats(cache: &Cache<K, V, We, B, L, A>, key: K) -> Reply<K, V, M>
-        ensures step { StepsBy F ⟦<Cache<K, V, We, B, L, A> as Going>⟧.goes K.eq K.is_clone
+        ensures step { StepsBy F ⟦<Cache<K, V, We, B, L, A> as Ruled>⟧.goes K.eq K.is_clone
             V.is_clone cache.now (Call.Stats key) result cache.now }
     {
         match cache.item_stats(&key) {
@@ -92,7 +92,7 @@ impl<
     /// Tells the numbers of the cache.
     #[inline(never)]
     pub(crate) fn counts(cache: &Cache<K, V, We, B, L, A>) -> Reply<K, V, M>
-        ensures step { StepsBy F ⟦<Cache<K, V, We, B, L, A> as Going>⟧.goes K.eq K.is_clone
+        ensures step { StepsBy F ⟦<Cache<K, V, We, B, L, A> as Ruled>⟧.goes K.eq K.is_clone
             V.is_clone cache.now (Call.Counts) result cache.now }
     {
         Reply::Counts {

@@ -8,7 +8,7 @@ ghost use Rattle.quick_cache_runs.specs.Made.{StepsBy};
 
 use crate::calls::CallMaker;
 use quick_cache_model::{Call, Lifecycle, Refusal, Reply, Weighter};
-use quick_cache_shard::Going;
+use quick_cache_shard::Ruled;
 use quick_cache_unsync::{Cache, Iter};
 use std::alloc::Allocator;
 use std::hash::{BuildHasher, Hash};
@@ -77,7 +77,7 @@ impl<
     /// Shows clones of all pairs, in no order. They are made first, and room for them before.
     #[inline(never)]
     pub(crate) fn walk(alloc: &M, cache: &Cache<K, V, We, B, L, A>) -> Reply<K, V, M>
-        ensures step { StepsBy F ⟦<Cache<K, V, We, B, L, A> as Going>⟧.goes K.eq K.is_clone
+        ensures step { StepsBy F ⟦<Cache<K, V, We, B, L, A> as Ruled>⟧.goes K.eq K.is_clone
             V.is_clone cache.now (Call.Iter) result cache.now }
     {
         let Ok(alloc) = alloc.clone() else {
@@ -92,7 +92,7 @@ impl<
     /// Takes all pairs out, in no order, and drops all else. Room for them is made first.
     #[inline(never)]
     pub(crate) fn drain(alloc: &M, cache: &mut Cache<K, V, We, B, L, A>) -> Reply<K, V, M>
-        ensures step { StepsBy F ⟦<Cache<K, V, We, B, L, A> as Going>⟧.goes K.eq K.is_clone
+        ensures step { StepsBy F ⟦<Cache<K, V, We, B, L, A> as Ruled>⟧.goes K.eq K.is_clone
             V.is_clone cache.old (Call.Drain) result cache.new }
         ensures room { cache.old.room ≤ cache.new.room }
         ensures same { KeepsWork cache.old cache.new }

@@ -7,7 +7,7 @@ ghost use Rattle.quick_cache_runs.specs.Room.{NeedsRoom, refusal_of};
 
 use crate::calls::CallMaker;
 use quick_cache_model::{Call, Lifecycle, Reply, Weighter};
-use quick_cache_shard::Going;
+use quick_cache_shard::Ruled;
 use quick_cache_unsync::{Cache, poke as write_to_peeked, set as write_to_found};
 use std::alloc::Allocator;
 use std::hash::{BuildHasher, Hash};
@@ -30,7 +30,7 @@ impl<
         value: V,
         state: &mut L::RequestState,
     ) -> Reply<K, V, M>
-        ensures step { MakesCall F ⟦<Cache<K, V, We, B, L, A> as Going>⟧.goes K.eq K.is_clone
+        ensures step { MakesCall F ⟦<Cache<K, V, We, B, L, A> as Ruled>⟧.goes K.eq K.is_clone
             V.is_clone cache.old state.old (Call.Insert key value) result cache.new state.new }
         ensures room { cache.old.room ≤ cache.new.room + 1 }
         ensures asks { NeedsRoom cache.old.room (refusal_of result) }
@@ -51,7 +51,7 @@ impl<
         soft: bool,
         state: &mut L::RequestState,
     ) -> Reply<K, V, M>
-        ensures step { MakesCall F ⟦<Cache<K, V, We, B, L, A> as Going>⟧.goes K.eq K.is_clone
+        ensures step { MakesCall F ⟦<Cache<K, V, We, B, L, A> as Ruled>⟧.goes K.eq K.is_clone
             V.is_clone cache.old state.old (Call.Replace key value soft) result cache.new state.new }
         ensures room { cache.old.room ≤ cache.new.room }
         ensures same { KeepsTerms cache.old cache.new }
@@ -65,7 +65,7 @@ impl<
     /// Writes a value through `get_mut`.
     #[inline(never)]
     pub(crate) fn set(cache: &mut Cache<K, V, We, B, L, A>, key: K, value: V) -> Reply<K, V, M>
-        ensures step { StepsBy F ⟦<Cache<K, V, We, B, L, A> as Going>⟧.goes K.eq K.is_clone
+        ensures step { StepsBy F ⟦<Cache<K, V, We, B, L, A> as Ruled>⟧.goes K.eq K.is_clone
             V.is_clone cache.old (Call.GetMut key value) result cache.new }
         ensures same { cache.new
             ≡ record cache.old { state = cache.new.state; places = cache.new.places } }
@@ -76,7 +76,7 @@ impl<
     /// Writes a value through `peek_mut`.
     #[inline(never)]
     pub(crate) fn poke(cache: &mut Cache<K, V, We, B, L, A>, key: K, value: V) -> Reply<K, V, M>
-        ensures step { StepsBy F ⟦<Cache<K, V, We, B, L, A> as Going>⟧.goes K.eq K.is_clone
+        ensures step { StepsBy F ⟦<Cache<K, V, We, B, L, A> as Ruled>⟧.goes K.eq K.is_clone
             V.is_clone cache.old (Call.PeekMut key value) result cache.new }
         ensures same { cache.new
             ≡ record cache.old { state = cache.new.state; places = cache.new.places } }
@@ -87,7 +87,7 @@ impl<
     /// Takes the item under a key out.
     #[inline(never)]
     pub(crate) fn remove(cache: &mut Cache<K, V, We, B, L, A>, key: K) -> Reply<K, V, M>
-        ensures step { StepsBy F ⟦<Cache<K, V, We, B, L, A> as Going>⟧.goes K.eq K.is_clone
+        ensures step { StepsBy F ⟦<Cache<K, V, We, B, L, A> as Ruled>⟧.goes K.eq K.is_clone
             V.is_clone cache.old (Call.Remove key) result cache.new }
         ensures room { cache.old.room ≤ cache.new.room }
         ensures same { KeepsWork cache.old cache.new }
@@ -98,7 +98,7 @@ impl<
     /// Drops all items.
     #[inline(never)]
     pub(crate) fn clear(cache: &mut Cache<K, V, We, B, L, A>) -> Reply<K, V, M>
-        ensures step { StepsBy F ⟦<Cache<K, V, We, B, L, A> as Going>⟧.goes K.eq K.is_clone
+        ensures step { StepsBy F ⟦<Cache<K, V, We, B, L, A> as Ruled>⟧.goes K.eq K.is_clone
             V.is_clone cache.old (Call.Clear) result cache.new }
         ensures room { cache.old.room ≤ cache.new.room }
         ensures same { KeepsWork cache.old cache.new }
@@ -114,7 +114,7 @@ impl<
         capacity: u64,
         state: &mut L::RequestState,
     ) -> Reply<K, V, M>
-        ensures step { MakesCall F ⟦<Cache<K, V, We, B, L, A> as Going>⟧.goes K.eq K.is_clone
+        ensures step { MakesCall F ⟦<Cache<K, V, We, B, L, A> as Ruled>⟧.goes K.eq K.is_clone
             V.is_clone cache.old state.old (Call.SetCapacity capacity) result cache.new state.new }
         ensures room { cache.old.room ≤ cache.new.room }
         ensures same { KeepsTerms cache.old cache.new }
@@ -126,7 +126,7 @@ impl<
     /// Makes room for so many more entries.
     #[inline(never)]
     pub(crate) fn reserve(cache: &mut Cache<K, V, We, B, L, A>, additional: usize) -> Reply<K, V, M>
-        ensures step { StepsBy F ⟦<Cache<K, V, We, B, L, A> as Going>⟧.goes K.eq K.is_clone
+        ensures step { StepsBy F ⟦<Cache<K, V, We, B, L, A> as Ruled>⟧.goes K.eq K.is_clone
             V.is_clone cache.old (Call.Reserve additional) result cache.new }
         ensures room { cache.old.room ≤ cache.new.room }
         ensures same { cache.new ≡ record cache.old { room = cache.new.room } }

@@ -7,7 +7,7 @@ ghost use Rattle.quick_cache_shard.specs.TokenValues.{IsTaken, IsValueOf};
 ghost use Rattle.quick_cache_shard.specs.Steps.{ReweighsTokenBy};
 
 use crate::shard::CacheShard;
-use crate::words::{Going, Rowed};
+use crate::words::{Ruled, Typed};
 use quick_cache_model::{Lifecycle, Token, Weighter};
 use quick_cache_policy::SharedPlaceholder;
 use std::alloc::{Allocator, Global};
@@ -55,7 +55,7 @@ impl<
     A: Allocator,
 > Drop for TokenMut<'_, K, V, We, B, L, P, A> {
     fn drop(self)
-        ensures reweighs { ReweighsTokenBy ⟦<CacheShard<K, V, We, B, L, P, A> as Going>⟧.goes
+        ensures reweighs { ReweighsTokenBy ⟦<CacheShard<K, V, We, B, L, P, A> as Ruled>⟧.goes
             P.Touch.may_count self.entry.shard.now self.entry.slot self.exit.0.now }
         ensures places { LosesOnly self.entry.shard.now.places self.exit.0.now.places }
         ensures same { KeepsRoom self.entry.shard.now self.exit.0.now }
@@ -73,7 +73,7 @@ impl<
     L: Lifecycle<K, V>,
     P: SharedPlaceholder<K>,
     A: Allocator,
-> Rowed for TokenMut<'_, K, V, We, B, L, P, A> {
+> Typed for TokenMut<'_, K, V, We, B, L, P, A> {
     ghost use Rattle.quick_cache_shard.specs.LentTokens.{refs_row};
 
     ghost lender_row = { refs_row K.row V.row We.row B.row L.row P.row A.row B.Hasher.row
@@ -116,7 +116,7 @@ impl<
     ghost deref_mut_gives = { λ p x. IsValueOf p.shard.now p.slot x };
 
     fn deref_mut(&mut self) -> &mut V
-        ensures* writes_back { sem 𝓛 (Lends ⟦<Self as Rowed>⟧.lender_row V.row self.entry result
+        ensures* writes_back { sem 𝓛 (Lends ⟦<Self as Typed>⟧.lender_row V.row self.entry result
             (with_value self.old)) }
         ensures value { IsValueOf self.old.shard.now self.old.slot result.now }
     {
@@ -141,7 +141,7 @@ impl<
     /// no use of the item: nothing is counted or marked. Once it is dropped, the item has the weight
     /// of the value that was left, as with `get_mut`.
     pub fn peek_token_mut(&mut self, token: Token) -> Option<TokenMut<'_, K, V, We, B, L, P, A>>
-        ensures* rests { sem 𝓛 (RestsIfNone ⟦<Self as Rowed>⟧.lender_row self.entry lender result
+        ensures* rests { sem 𝓛 (RestsIfNone ⟦<Self as Typed>⟧.lender_row self.entry lender result
             (λ new. new ≡ self.old)) }
         ensures lends { IfSome result (λ r. lender r ≡ self.entry.ghost_name) }
         ensures slot { IfSome result (λ r. slot_of r ≡ number token) }
@@ -172,7 +172,7 @@ impl<
     /// The same, to write. The item keeps its place and its weight.
     pub(crate) fn value_at_mut(&mut self, token: Token) -> &mut V
         requires there { IsTaken self.old (number token) }
-        ensures* writes_back { sem 𝓛 (Lends ⟦<Self as Rowed>⟧.lender_row V.row self.entry result
+        ensures* writes_back { sem 𝓛 (Lends ⟦<Self as Typed>⟧.lender_row V.row self.entry result
             (λ value. with_value_at K.eq (number token) value self.old)) }
         ensures value { IsValueOf self.old (number token) result.now }
     {
@@ -183,7 +183,7 @@ impl<
     /// Weighs the item of the token anew, which is known to be there, as `reweigh` does.
     pub(crate) fn reweigh_at(&mut self, token: Token)
         requires there { IsTaken self.old (number token) }
-        ensures reweighs { ReweighsTokenBy ⟦<Self as Going>⟧.goes P.Touch.may_count self.old
+        ensures reweighs { ReweighsTokenBy ⟦<Self as Ruled>⟧.goes P.Touch.may_count self.old
             (number token) self.new }
         ensures there { IsTaken self.new (number token) }
         ensures places { LosesOnly self.old.places self.new.places }

@@ -7,7 +7,7 @@ ghost use Rattle.quick_cache_shard.specs.Stays.{IdlesWithin};
 ghost use Rattle.quick_cache_shard.specs.Steps.{rules_in};
 
 use crate::shard::CacheShard;
-use crate::words::{Going, Keyed};
+use crate::words::{Keyed, Ruled};
 use quick_cache_model::{Lifecycle, Refusal, ToKey, Weighter};
 use quick_cache_policy::{EntryAction, EntryOrPlaceholder, MakesPlaceholders, SharedPlaceholder};
 use std::alloc::Allocator;
@@ -54,7 +54,7 @@ impl<
         requires callable { MayBeShownUnder F.FnMut callback.old (Q.equivalent query.now)
             self.old.state }
         ensures answers { AnswersEntry F.FnMut
-            (rules_in ⟦<Self as Going>⟧.goes P.Touch.may_count self.old)
+            (rules_in ⟦<Self as Ruled>⟧.goes P.Touch.may_count self.old)
             (Q.equivalent query.now) callback.old self.old.state P.own_ticket
             (Q.to_key_gives query.now) hash result callback.new self.new.state }
         ensures hash { IsNewUnder P.hash_of hash result }

@@ -7,7 +7,7 @@ ghost use Rattle.quick_cache_shard.specs.Stays.{WritesWithin};
 ghost use Rattle.quick_cache_shard.specs.Steps.{AnswersWriteBy, FillsBy, InsertsBy, ReplacesBy, RestoresBy, SetsCapacityBy};
 
 use crate::shard::CacheShard;
-use crate::words::{Going, Keyed};
+use crate::words::{Keyed, Ruled};
 use quick_cache_model::{Lifecycle, Queue, Refusal, Weighter};
 use quick_cache_options::sizes::{rescaled_limit, rescaled_target};
 use quick_cache_policy::{InsertStrategy, SharedPlaceholder};
@@ -37,7 +37,7 @@ impl<
         value: V,
     ) -> Result<(), (K, V, Refusal)>
         requires hash_is { hash ≡ ⟦<Self as Keyed>⟧.hash self.old.builder (K.hash_input key) }
-        ensures inserts { InsertsBy ⟦<Self as Going>⟧.goes P.Touch.may_count self.old K.eq key value
+        ensures inserts { InsertsBy ⟦<Self as Ruled>⟧.goes P.Touch.may_count self.old K.eq key value
             result self.new state.old state.new }
         ensures places { KeepsPlaces K.eq self.old.places self.new.places }
         // It asks for memory only where there is no room.
@@ -60,7 +60,7 @@ impl<
         soft: bool,
     ) -> Result<(), (K, V)>
         requires hash_is { hash ≡ ⟦<Self as Keyed>⟧.hash self.old.builder (K.hash_input key) }
-        ensures replaces { ReplacesBy ⟦<Self as Going>⟧.goes P.Touch.may_count self.old K.eq soft
+        ensures replaces { ReplacesBy ⟦<Self as Ruled>⟧.goes P.Touch.may_count self.old K.eq soft
             key value result self.new state.old state.new }
         ensures places { KeepsPlaces K.eq self.old.places self.new.places }
         // It takes no room.
@@ -85,7 +85,7 @@ impl<
         strategy: InsertStrategy,
     ) -> Result<(), (K, V, Option<Refusal>)>
         requires hash_is { hash ≡ ⟦<Self as Keyed>⟧.hash self.old.builder (K.hash_input key) }
-        ensures answers { AnswersWriteBy ⟦<Self as Going>⟧.goes P.Touch.may_count self.old K.eq
+        ensures answers { AnswersWriteBy ⟦<Self as Ruled>⟧.goes P.Touch.may_count self.old K.eq
             (strategy_of strategy) key value result self.new state.old state.new }
         ensures places { KeepsPlaces K.eq self.old.places self.new.places }
         // Only a replace gives a pair back with no refusal, and it is never refused.
@@ -128,7 +128,7 @@ impl<
         mark: u8,
     ) -> Result<(), (K, V, Option<Refusal>)>
         requires hash_is { hash ≡ ⟦<Self as Keyed>⟧.hash self.old.builder (K.hash_input key) }
-        ensures answers { RestoresBy ⟦<Self as Going>⟧.goes P.Touch.may_count self.old K.eq
+        ensures answers { RestoresBy ⟦<Self as Ruled>⟧.goes P.Touch.may_count self.old K.eq
             key value queue mark result self.new }
         ensures asks { IfErr result (λ back. back.2 ≡ Some Refusal.Memory → self.old.room ≡ 0) }
         ensures places { KeepsPlaces K.eq self.old.places self.new.places }
@@ -158,7 +158,7 @@ impl<
         referenced: bool,
         value: V,
     ) -> Result<(), V>
-        ensures fills { FillsBy ⟦<Self as Going>⟧.goes P.Touch.may_count self.old
+        ensures fills { FillsBy ⟦<Self as Ruled>⟧.goes P.Touch.may_count self.old
             (P.own_ticket placeholder.now) referenced value result self.new state.old state.new }
         ensures places { KeepsPlaces K.eq self.old.places self.new.places }
         ensures stays { WritesWithin K.eq 0 self.old self.new }
@@ -176,7 +176,7 @@ impl<
     ///
     /// It takes no memory. What is pinned may weigh more than the capacity still.
     pub fn set_capacity(&mut self, capacity: u64, state: &mut L::RequestState)
-        ensures sets { SetsCapacityBy ⟦<Self as Going>⟧.goes P.Touch.may_count self.old capacity
+        ensures sets { SetsCapacityBy ⟦<Self as Ruled>⟧.goes P.Touch.may_count self.old capacity
             self.new state.old state.new }
         ensures sizes { Rescales capacity self.old.state self.new.state }
         ensures places { LosesOnly self.old.places self.new.places }

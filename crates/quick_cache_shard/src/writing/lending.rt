@@ -9,7 +9,7 @@ ghost use Rattle.quick_cache_shard.specs.Shard.{LosesOnly, UpToOrder, IsSoundSha
 ghost use Rattle.quick_cache_shard.specs.Steps.{ReweighsBy};
 
 use crate::shard::CacheShard;
-use crate::words::{Going, Keyed, Rowed};
+use crate::words::{Keyed, Ruled, Typed};
 use quick_cache_model::{Equivalent, Lifecycle, Token, Weighter};
 use quick_cache_policy::SharedPlaceholder;
 use std::alloc::{Allocator, Global};
@@ -51,7 +51,7 @@ impl<
     A: Allocator,
 > Drop for RefMut<'_, Q, K, V, We, B, L, P, A> {
     fn drop(self)
-        ensures reweighs { ReweighsBy ⟦<CacheShard<K, V, We, B, L, P, A> as Going>⟧.goes
+        ensures reweighs { ReweighsBy ⟦<CacheShard<K, V, We, B, L, P, A> as Ruled>⟧.goes
             P.Touch.may_count self.entry.shard.now (Q.equivalent self.entry.query.now)
             self.exit.0.now }
         ensures places { LosesOnly self.entry.shard.now.places self.exit.0.now.places }
@@ -76,7 +76,7 @@ impl<
     L: Lifecycle<K, V>,
     P: SharedPlaceholder<K>,
     A: Allocator,
-> Rowed for RefMut<'_, Q, K, V, We, B, L, P, A> {
+> Typed for RefMut<'_, Q, K, V, We, B, L, P, A> {
     ghost use Rattle.quick_cache_shard.specs.LentValues.{refs_row};
 
     ghost lender_row = { refs_row Q.row K.row V.row We.row B.row L.row P.row A.row B.Hasher.row
@@ -124,7 +124,7 @@ impl<
     ghost deref_mut_gives = { λ p x. IsValueUnder (Q.equivalent p.query.now) p.shard.now.state x };
 
     fn deref_mut(&mut self) -> &mut V
-        ensures* writes_back { sem 𝓛 (Lends ⟦<Self as Rowed>⟧.lender_row V.row self.entry result
+        ensures* writes_back { sem 𝓛 (Lends ⟦<Self as Typed>⟧.lender_row V.row self.entry result
             (with_value self.old)) }
         ensures value { IsValueUnder (Q.equivalent self.old.query.now) self.old.shard.now.state
             result.now }
@@ -157,7 +157,7 @@ impl<
         query: &'a Q,
     ) -> Option<RefMut<'a, Q, K, V, We, B, L, P, A>>
         requires hash_is { hash ≡ ⟦<Self as Keyed>⟧.hash self.old.builder (Q.hash_input query.now) }
-        ensures* rests { sem 𝓛 (RestsIfNone ⟦<Self as Rowed>⟧.lender_row self.entry lender result
+        ensures* rests { sem 𝓛 (RestsIfNone ⟦<Self as Typed>⟧.lender_row self.entry lender result
             (λ new. UpToOrder (LooksUp (Q.equivalent query.now) self.old.state
             (λ item. item.value) None) new.state
             × (new ≡ record self.old { state = new.state }))) }
@@ -188,7 +188,7 @@ impl<
         query: &'a Q,
     ) -> Option<RefMut<'a, Q, K, V, We, B, L, P, A>>
         requires hash_is { hash ≡ ⟦<Self as Keyed>⟧.hash self.old.builder (Q.hash_input query.now) }
-        ensures* rests { sem 𝓛 (RestsIfNone ⟦<Self as Rowed>⟧.lender_row self.entry lender result
+        ensures* rests { sem 𝓛 (RestsIfNone ⟦<Self as Typed>⟧.lender_row self.entry lender result
             (λ new. new ≡ self.old)) }
         ensures lends { IfSome result (λ r. lender r ≡ self.entry.ghost_name) }
         ensures query { IfSome result (λ r. query_of r ≡ query.now) }
@@ -214,7 +214,7 @@ impl<
     pub fn reweigh<Q: Equivalent<K>>(&mut self, thought: Option<Token>, hash: u64, query: &Q)
         requires hash_is { hash ≡ ⟦<Self as Keyed>⟧.hash self.old.builder (Q.hash_input query.now) }
         requires there { 0 < count_under (Q.equivalent query.now) self.old.state }
-        ensures reweighs { ReweighsBy ⟦<Self as Going>⟧.goes P.Touch.may_count self.old
+        ensures reweighs { ReweighsBy ⟦<Self as Ruled>⟧.goes P.Touch.may_count self.old
             (Q.equivalent query.now) self.new }
         ensures places { LosesOnly self.old.places self.new.places }
         ensures there { 0 < count_under (Q.equivalent query.now) self.new.state }

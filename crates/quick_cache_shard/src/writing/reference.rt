@@ -7,7 +7,7 @@ ghost use Rattle.quick_cache_policy.specs.References.{count_under, IsValueUnder,
 ghost use Rattle.quick_cache_shard.specs.Shard.{IsSoundShard, HasTokenUnder};
 
 use crate::shard::CacheShard;
-use crate::words::{Keyed, Rowed};
+use crate::words::{Keyed, Typed};
 use quick_cache_model::{Equivalent, Token};
 use quick_cache_policy::SharedPlaceholder;
 use std::alloc::Allocator;
@@ -82,7 +82,7 @@ impl<K: Eq + Hash, V, We, B: BuildHasher, L, P: SharedPlaceholder<K>, A: Allocat
     ) -> &mut V
         requires hash_is { hash ≡ ⟦<Self as Keyed>⟧.hash self.old.builder (Q.hash_input query.now) }
         requires there { 0 < count_under (Q.equivalent query.now) self.old.state }
-        ensures* writes_back { sem 𝓛 (Lends ⟦<Self as Rowed>⟧.lender_row V.row self.entry result
+        ensures* writes_back { sem 𝓛 (Lends ⟦<Self as Typed>⟧.lender_row V.row self.entry result
             (written_under (Q.equivalent query.now) self.old)) }
         ensures value { IsValueUnder (Q.equivalent query.now) self.old.state result.now }
     {

@@ -7,7 +7,7 @@ ghost use Rattle.quick_cache_sync.specs.Fills.{FillsSo, GivesFitting};
 
 use crate::cache::Cache;
 use quick_cache_model::{Lifecycle, Refusal, Weighter};
-use quick_cache_shard::Going;
+use quick_cache_shard::Ruled;
 use std::alloc::Allocator;
 use std::hash::{BuildHasher, Hash};
 use std::sync::Wait;
@@ -37,7 +37,7 @@ impl<
         requires fits { GivesFitting I.next_gives L.fits pairs }
         // Each pair is an insert of its own in some shard, until one is refused or none is left.
         ensures fills { FillsSo I.next_gives (λ key value answer. FromSome L.Lifecycle K.eq
-            (λ shard. InsertsAloneBy ⟦<Self as Going>⟧.goes K.eq shard
+            (λ shard. InsertsAloneBy ⟦<Self as Ruled>⟧.goes K.eq shard
             L.RequestState.is_default key value answer)) pairs result }
         ensures fits { IfErr result (λ back. L.fits back.0 back.1) }
     {

@@ -11,7 +11,7 @@ ghost use Rattle.quick_cache_sync.specs.InTurn.{FitsHeated, ShowInTurn};
 use crate::cache::Cache;
 use quick_cache_locked::Heated;
 use quick_cache_model::{Lifecycle, Queue, Refusal, Weighter};
-use quick_cache_shard::Going;
+use quick_cache_shard::Ruled;
 use std::alloc::Allocator;
 use std::hash::{BuildHasher, Hash};
 use std::sync::Wait;
@@ -80,7 +80,7 @@ impl<
     ) -> Result<(), (K, V, Option<Refusal>)>
         requires fits { L.fits key value }
         ensures answers { FromSome L.Lifecycle K.eq (λ shard.
-            RestoresSoBy ⟦<Self as Going>⟧.goes K.eq shard key value queue mark result) }
+            RestoresSoBy ⟦<Self as Ruled>⟧.goes K.eq shard key value queue mark result) }
     {
         self.shard_of(&key)
             .write(rt)

@@ -16,7 +16,7 @@ ghost use Rattle.quick_cache_sync.specs.Tries.{IsTried, IsTriedWith, IfContended
 use crate::cache::Cache;
 use crate::error::{LockContention, TryError};
 use quick_cache_model::{Equivalent, ItemStats, Lifecycle, Weighter};
-use quick_cache_shard::Going;
+use quick_cache_shard::Ruled;
 use std::alloc::Allocator;
 use std::hash::{BuildHasher, Hash};
 
@@ -158,7 +158,7 @@ impl<
     pub fn try_insert(&self, key: K, value: V) -> Result<(), (K, V, TryError)>
         requires fits { L.fits key value }
         ensures answers { IsTriedWith (λ answer. FromSome L.Lifecycle K.eq (λ shard.
-            InsertsAloneBy ⟦<Self as Going>⟧.goes K.eq shard
+            InsertsAloneBy ⟦<Self as Ruled>⟧.goes K.eq shard
             L.RequestState.is_default key value answer)) result }
         ensures pair { IfContended result (λ back_key back_value.
             (back_key ≡ key) × (back_value ≡ value)) }
@@ -183,7 +183,7 @@ impl<
     ) -> Result<(), (K, V, TryError)>
         requires fits { L.fits key value }
         ensures answers { IsTriedWith (λ answer. FromSome L.Lifecycle K.eq (λ shard.
-            InsertsSoBy ⟦<Self as Going>⟧.goes K.eq shard
+            InsertsSoBy ⟦<Self as Ruled>⟧.goes K.eq shard
             state.old key value answer state.new)) result }
         ensures pair { IfContended result (λ back_key back_value.
             (back_key ≡ key) × (back_value ≡ value) × (state.new ≡ state.old)) }

@@ -11,7 +11,7 @@ ghost use Rattle.quick_cache_locked.specs.Locked.{FromSome};
 
 use crate::cache::Cache;
 use quick_cache_model::{Equivalent, Lifecycle, Weighter};
-use quick_cache_shard::Going;
+use quick_cache_shard::Ruled;
 use std::alloc::Allocator;
 use std::hash::{BuildHasher, Hash};
 use std::sync::Wait;
@@ -34,7 +34,7 @@ impl<
     pub fn replace<R: Wait>(&self, rt: &R, key: K, value: V, soft: bool) -> Result<(), (K, V)>
         requires fits { L.fits key value }
         ensures answers { FromSome L.Lifecycle K.eq (λ shard.
-            ReplacesAloneBy ⟦<Self as Going>⟧.goes K.eq shard
+            ReplacesAloneBy ⟦<Self as Ruled>⟧.goes K.eq shard
             L.RequestState.is_default soft key value result) }
         ensures fits { IfErr result (λ pair. L.fits pair.0 pair.1) }
     {
@@ -60,7 +60,7 @@ impl<
     ) -> Result<(), (K, V)>
         requires fits { L.fits key value }
         ensures answers { FromSome L.Lifecycle K.eq (λ shard.
-            ReplacesSoBy ⟦<Self as Going>⟧.goes K.eq shard
+            ReplacesSoBy ⟦<Self as Ruled>⟧.goes K.eq shard
             soft state.old key value result state.new) }
         ensures fits { IfErr result (λ pair. L.fits pair.0 pair.1) }
     {

@@ -11,7 +11,7 @@ ghost use Rattle.quick_cache_shard.specs.Steps.{ReweighsBy};
 
 use crate::cache::Cache;
 use quick_cache_model::{Equivalent, Lifecycle, Weighter};
-use quick_cache_shard::{Going, Keyed, Rowed, Token};
+use quick_cache_shard::{Keyed, Ruled, Token, Typed};
 use std::alloc::{Allocator, Global};
 use std::hash::{BuildHasher, Hash};
 use std::ops::{Deref, DerefMut};
@@ -49,7 +49,7 @@ impl<
     A: Allocator,
 > Drop for RefMut<'_, Q, K, V, We, B, L, A> {
     fn drop(self)
-        ensures reweighs { ReweighsBy ⟦<Cache<K, V, We, B, L, A> as Going>⟧.goes no_touches
+        ensures reweighs { ReweighsBy ⟦<Cache<K, V, We, B, L, A> as Ruled>⟧.goes no_touches
             self.entry.cache.now (Q.equivalent self.entry.query.now) self.exit.0.now }
         ensures same { KeepsRoom self.entry.cache.now self.exit.0.now }
     {
@@ -71,7 +71,7 @@ impl<
     B: BuildHasher,
     L: Lifecycle<K, V>,
     A: Allocator,
-> Rowed for RefMut<'_, Q, K, V, We, B, L, A> {
+> Typed for RefMut<'_, Q, K, V, We, B, L, A> {
     ghost use Rattle.quick_cache_unsync.specs.LentValues.{refs_row};
 
     ghost lender_row = { refs_row Q.row K.row V.row We.row B.row L.row A.row B.Hasher.row
@@ -117,7 +117,7 @@ impl<
     ghost deref_mut_gives = { λ p x. IsValueUnder (Q.equivalent p.query.now) p.cache.now.state x };
 
     fn deref_mut(&mut self) -> &mut V
-        ensures* writes_back { sem 𝓛 (Lends ⟦<Self as Rowed>⟧.lender_row V.row self.entry result
+        ensures* writes_back { sem 𝓛 (Lends ⟦<Self as Typed>⟧.lender_row V.row self.entry result
             (with_value self.old)) }
         ensures value { IsValueUnder (Q.equivalent self.old.query.now) self.old.cache.now.state
             result.now }
@@ -139,7 +139,7 @@ impl<K: Eq + Hash, V, We, B: BuildHasher, L, A: Allocator> Cache<K, V, We, B, L,
     ) -> &mut V
         requires hash_is { hash ≡ ⟦<Self as Keyed>⟧.hash self.old.builder (Q.hash_input query.now) }
         requires there { 0 < count_under (Q.equivalent query.now) self.old.state }
-        ensures* writes_back { sem 𝓛 (Lends ⟦<Self as Rowed>⟧.lender_row V.row self.entry result
+        ensures* writes_back { sem 𝓛 (Lends ⟦<Self as Typed>⟧.lender_row V.row self.entry result
             (written_under (Q.equivalent query.now) self.old)) }
         ensures value { IsValueUnder (Q.equivalent query.now) self.old.state result.now }
     {
@@ -167,7 +167,7 @@ impl<
         &'a mut self,
         query: &'a Q,
     ) -> Option<RefMut<'a, Q, K, V, We, B, L, A>>
-        ensures* rests { sem 𝓛 (RestsIfNone ⟦<Self as Rowed>⟧.lender_row self.entry lender result
+        ensures* rests { sem 𝓛 (RestsIfNone ⟦<Self as Typed>⟧.lender_row self.entry lender result
             (λ new. UpToOrder (LooksUp (Q.equivalent query.now) self.old.state
             (λ item. item.value) None) new.state
             × (new ≡ record self.old { state = new.state }))) }
@@ -197,7 +197,7 @@ impl<
         &'a mut self,
         query: &'a Q,
     ) -> Option<RefMut<'a, Q, K, V, We, B, L, A>>
-        ensures* rests { sem 𝓛 (RestsIfNone ⟦<Self as Rowed>⟧.lender_row self.entry lender result
+        ensures* rests { sem 𝓛 (RestsIfNone ⟦<Self as Typed>⟧.lender_row self.entry lender result
             (λ new. new ≡ self.old)) }
         ensures lends { IfSome result (λ r. lender r ≡ self.entry.ghost_name) }
         ensures query { IfSome result (λ r. query_of r ≡ query.now) }

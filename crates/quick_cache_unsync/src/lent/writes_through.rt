@@ -5,7 +5,7 @@ ghost use Rattle.quick_cache_unsync.specs.Steps.{SetsBy, PokesBy};
 
 use crate::cache::Cache;
 use quick_cache_model::{Lifecycle, Weighter};
-use quick_cache_shard::Going;
+use quick_cache_shard::Ruled;
 use std::alloc::Allocator;
 use std::hash::{BuildHasher, Hash};
 
@@ -18,7 +18,7 @@ pub fn set<
     L: Lifecycle<K, V>,
     A: Allocator,
 >(cache: &mut Cache<K, V, We, B, L, A>, key: &K, value: V) -> bool
-    ensures sets { SetsBy ⟦<Cache<K, V, We, B, L, A> as Going>⟧.goes no_touches cache.old
+    ensures sets { SetsBy ⟦<Cache<K, V, We, B, L, A> as Ruled>⟧.goes no_touches cache.old
         (K.eq key.now) value result cache.new }
     ensures same { KeepsRoom cache.old cache.new }
 {
@@ -40,7 +40,7 @@ pub fn poke<
     L: Lifecycle<K, V>,
     A: Allocator,
 >(cache: &mut Cache<K, V, We, B, L, A>, key: &K, value: V) -> bool
-    ensures writes { PokesBy ⟦<Cache<K, V, We, B, L, A> as Going>⟧.goes no_touches cache.old
+    ensures writes { PokesBy ⟦<Cache<K, V, We, B, L, A> as Ruled>⟧.goes no_touches cache.old
         (K.eq key.now) value result cache.new }
     ensures same { KeepsRoom cache.old cache.new }
 {

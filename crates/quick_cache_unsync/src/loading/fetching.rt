@@ -11,7 +11,7 @@ ghost use Rattle.quick_cache_unsync.specs.Touches.{no_touches};
 use crate::cache::Cache;
 use crate::loading::not_loaded::LoadError;
 use quick_cache_model::{Lifecycle, Refusal, ToKey, Weighter};
-use quick_cache_shard::{Going, Keyed, Placeholder, Token};
+use quick_cache_shard::{Keyed, Placeholder, Ruled, Token};
 use std::alloc::Allocator;
 use std::hash::{BuildHasher, Hash};
 
@@ -43,7 +43,7 @@ impl<
         requires stands { StandsForGiven (Q.to_key_gives query.now) (Q.equivalent query.now) }
         requires loader { F.pre loader }
         // Where pinning is steady, a value fills the placeholder by a step of its definition.
-        ensures fetches { FetchesBy ⟦<Self as Going>⟧.goes no_touches self.old
+        ensures fetches { FetchesBy ⟦<Self as Ruled>⟧.goes no_touches self.old
             L.RequestState.is_default V.is_clone V.is_infallible (Q.equivalent query.now)
             (Q.to_key_gives query.now)
             (⟦<Self as Keyed>⟧.hash self.old.builder (Q.hash_input query.now))
@@ -72,7 +72,7 @@ impl<
         requires hash_is { hash ≡ ⟦<Self as Keyed>⟧.hash self.old.builder (Q.hash_input query.now) }
         requires stands { StandsForGiven (Q.to_key_gives query.now) (Q.equivalent query.now) }
         requires loader { F.pre loader }
-        ensures fetches { FetchesBy ⟦<Self as Going>⟧.goes no_touches self.old
+        ensures fetches { FetchesBy ⟦<Self as Ruled>⟧.goes no_touches self.old
             L.RequestState.is_default V.is_clone V.is_infallible (Q.equivalent query.now)
             (Q.to_key_gives query.now)
             hash (F.post loader) result self.new }
@@ -118,7 +118,7 @@ impl<
         V: Clone,
         requires awaited { IsAwaited placeholder.now.ticket self.old.state }
         requires loader { F.pre loader }
-        ensures ends { EndsFetchBy ⟦<Self as Going>⟧.goes no_touches self.old
+        ensures ends { EndsFetchBy ⟦<Self as Ruled>⟧.goes no_touches self.old
             L.RequestState.is_default V.is_clone V.is_infallible placeholder.now.ticket
             (F.post loader) result self.new }
         ensures stays { StaysWithin K.eq 0 self.old self.new }

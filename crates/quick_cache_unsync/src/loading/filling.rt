@@ -8,7 +8,7 @@ ghost use Rattle.quick_cache_unsync.specs.Steps.{FillsThereBy, FillsIfThereBy};
 
 use crate::cache::Cache;
 use quick_cache_model::{Lifecycle, Weighter};
-use quick_cache_shard::{Going, Placeholder};
+use quick_cache_shard::{Placeholder, Ruled};
 use std::alloc::Allocator;
 use std::hash::{BuildHasher, Hash};
 
@@ -28,7 +28,7 @@ impl<
         value: V,
     )
         requires awaited { IsAwaited placeholder.now.ticket self.old.state }
-        ensures fills { FillsThereBy ⟦<Self as Going>⟧.goes no_touches self.old
+        ensures fills { FillsThereBy ⟦<Self as Ruled>⟧.goes no_touches self.old
             placeholder.now.ticket value self.new state.old state.new }
         ensures stays { WritesWithin K.eq 0 self.old self.new }
     {
@@ -44,7 +44,7 @@ impl<
         placeholder: &Placeholder,
         value: V,
     )
-        ensures fills { FillsIfThereBy ⟦<Self as Going>⟧.goes no_touches self.old
+        ensures fills { FillsIfThereBy ⟦<Self as Ruled>⟧.goes no_touches self.old
             placeholder.now.ticket value self.new state.old state.new }
         ensures stays { WritesWithin K.eq 0 self.old self.new }
     {

@@ -8,7 +8,7 @@ ghost use Rattle.quick_cache_unsync.specs.Steps.{FillsIfThereBy};
 
 use crate::cache::Cache;
 use quick_cache_model::{Lifecycle, Weighter};
-use quick_cache_shard::{Going, Placeholder};
+use quick_cache_shard::{Placeholder, Ruled};
 use std::alloc::{Allocator, Global};
 use std::hash::{BuildHasher, Hash};
 
@@ -72,7 +72,7 @@ impl<
     pub fn insert(self, value: V)
         // Where pinning is steady, the fill is a step of its definition.
         ensures fills { IsDoneAlone L.RequestState.is_default
-            (FillsIfThereBy ⟦<Cache<K, V, We, B, L, A> as Going>⟧.goes no_touches
+            (FillsIfThereBy ⟦<Cache<K, V, We, B, L, A> as Ruled>⟧.goes no_touches
             self.entry.cache.now self.entry.ticket value self.exit.0.now) }
         // It takes no room.
         ensures room { self.entry.cache.now.room ≤ self.exit.0.now.room }
@@ -96,7 +96,7 @@ impl<
     /// lifecycle with this request state.
     pub fn insert_with_lifecycle(self, value: V, state: &mut L::RequestState)
         // Where pinning is steady, the fill is a step of its definition.
-        ensures fills { FillsIfThereBy ⟦<Cache<K, V, We, B, L, A> as Going>⟧.goes no_touches
+        ensures fills { FillsIfThereBy ⟦<Cache<K, V, We, B, L, A> as Ruled>⟧.goes no_touches
             self.entry.cache.now self.entry.ticket value self.exit.0.now state.old state.new }
         // It takes no room.
         ensures room { self.entry.cache.now.room ≤ self.exit.0.now.room }

@@ -13,7 +13,7 @@ use crate::lent::reference::RefMut;
 use crate::loading::guard::Guard;
 use crate::loading::not_loaded::NotLoaded;
 use quick_cache_model::{Lifecycle, Refusal, ToKey, Weighter};
-use quick_cache_shard::{Going, Keyed, Rowed};
+use quick_cache_shard::{Keyed, Ruled, Typed};
 use std::alloc::Allocator;
 use std::hash::{BuildHasher, Hash};
 
@@ -46,12 +46,12 @@ impl<
         requires stands { StandsForGiven (Q.to_key_gives query.now) (Q.equivalent query.now) }
         requires loader { F.pre loader }
         // Where pinning is steady, a value fills the placeholder by a step of its definition.
-        ensures* rests { sem 𝓛 (RestsIfErr ⟦<Self as Rowed>⟧.lender_row self.entry reader result
-            (λ new. IfErr result (λ error. LoadsWithin ⟦<Self as Going>⟧.goes no_touches self.old
+        ensures* rests { sem 𝓛 (RestsIfErr ⟦<Self as Typed>⟧.lender_row self.entry reader result
+            (λ new. IfErr result (λ error. LoadsWithin ⟦<Self as Ruled>⟧.goes no_touches self.old
             L.RequestState.is_default (Q.equivalent query.now) (Q.to_key_gives query.now)
             (⟦<Self as Keyed>⟧.hash self.old.builder (Q.hash_input query.now))
             (F.post loader) (answer_of error) new))) }
-        ensures loads { IfOk result (λ r. LoadsWithin ⟦<Self as Going>⟧.goes no_touches self.old
+        ensures loads { IfOk result (λ r. LoadsWithin ⟦<Self as Ruled>⟧.goes no_touches self.old
             L.RequestState.is_default (Q.equivalent query.now) (Q.to_key_gives query.now)
             (⟦<Self as Keyed>⟧.hash self.old.builder (Q.hash_input query.now))
             (F.post loader) (Ok (Ok true)) (read_from r)) }
@@ -95,12 +95,12 @@ impl<
         requires stands { StandsForGiven (Q.to_key_gives query.now) (Q.equivalent query.now) }
         requires loader { F.pre loader }
         // Where pinning is steady, a value fills the placeholder by a step of its definition.
-        ensures* rests { sem 𝓛 (RestsIfErr ⟦<Self as Rowed>⟧.lender_row self.entry lender result
-            (λ new. IfErr result (λ error. LoadsWithin ⟦<Self as Going>⟧.goes no_touches self.old
+        ensures* rests { sem 𝓛 (RestsIfErr ⟦<Self as Typed>⟧.lender_row self.entry lender result
+            (λ new. IfErr result (λ error. LoadsWithin ⟦<Self as Ruled>⟧.goes no_touches self.old
             L.RequestState.is_default (Q.equivalent query.now) (Q.to_key_gives query.now)
             (⟦<Self as Keyed>⟧.hash self.old.builder (Q.hash_input query.now))
             (F.post loader) (answer_of error) new))) }
-        ensures loads { IfOk result (λ r. LoadsWithin ⟦<Self as Going>⟧.goes no_touches self.old
+        ensures loads { IfOk result (λ r. LoadsWithin ⟦<Self as Ruled>⟧.goes no_touches self.old
             L.RequestState.is_default (Q.equivalent query.now) (Q.to_key_gives query.now)
             (⟦<Self as Keyed>⟧.hash self.old.builder (Q.hash_input query.now))
             (F.post loader) (Ok (Ok true)) (lent r)) }
@@ -138,7 +138,7 @@ impl<
         query: &'a Q,
     ) -> Result<Result<Ref<'a, Q, K, V, We, B, L, A>, Guard<'a, K, V, We, B, L, A>>, Refusal>
         requires stands { StandsForGiven (Q.to_key_gives query.now) (Q.equivalent query.now) }
-        ensures* rests { sem 𝓛 (RestsIfErr ⟦<Self as Rowed>⟧.lender_row self.entry
+        ensures* rests { sem 𝓛 (RestsIfErr ⟦<Self as Typed>⟧.lender_row self.entry
             (lender_of reader) result (λ new. IfErr result (λ refusal. TakesNone
             (Q.equivalent query.now) (Q.to_key_gives query.now)
             (⟦<Self as Keyed>⟧.hash self.old.builder (Q.hash_input query.now))
@@ -188,7 +188,7 @@ impl<
         query: &'a Q,
     ) -> Result<Result<RefMut<'a, Q, K, V, We, B, L, A>, Guard<'a, K, V, We, B, L, A>>, Refusal>
         requires stands { StandsForGiven (Q.to_key_gives query.now) (Q.equivalent query.now) }
-        ensures* rests { sem 𝓛 (RestsIfErr ⟦<Self as Rowed>⟧.lender_row self.entry
+        ensures* rests { sem 𝓛 (RestsIfErr ⟦<Self as Typed>⟧.lender_row self.entry
             (lender_of lender) result (λ new. IfErr result (λ refusal. TakesNone
             (Q.equivalent query.now) (Q.to_key_gives query.now)
             (⟦<Self as Keyed>⟧.hash self.old.builder (Q.hash_input query.now))

@@ -11,7 +11,7 @@ ghost use Rattle.quick_cache_unsync.specs.Steps.{EndsLoadBy, LoadsBy};
 
 use crate::cache::Cache;
 use quick_cache_model::{Equivalent, Lifecycle, Refusal, ToKey, Weighter};
-use quick_cache_shard::{Going, Keyed, Placeholder, Plainly, Token};
+use quick_cache_shard::{Keyed, Placeholder, Plainly, Ruled, Token};
 use std::alloc::Allocator;
 use std::hash::{BuildHasher, Hash};
 
@@ -76,7 +76,7 @@ impl<
         requires hash_is { hash ≡ ⟦<Self as Keyed>⟧.hash self.old.builder (Q.hash_input query.now) }
         requires awaited { IsAwaited placeholder.now.ticket self.old.state }
         requires loader { F.pre loader }
-        ensures ends { EndsLoadBy ⟦<Self as Going>⟧.goes no_touches self.old
+        ensures ends { EndsLoadBy ⟦<Self as Ruled>⟧.goes no_touches self.old
             L.RequestState.is_default (Q.equivalent query.now) placeholder.now.ticket
             (F.post loader) result self.new }
         ensures stays { StaysWithin K.eq 0 self.old self.new }
@@ -106,7 +106,7 @@ impl<
         requires hash_is { hash ≡ ⟦<Self as Keyed>⟧.hash self.old.builder (Q.hash_input query.now) }
         requires stands { StandsForGiven (Q.to_key_gives query.now) (Q.equivalent query.now) }
         requires loader { F.pre loader }
-        ensures loads { LoadsBy ⟦<Self as Going>⟧.goes no_touches self.old
+        ensures loads { LoadsBy ⟦<Self as Ruled>⟧.goes no_touches self.old
             L.RequestState.is_default (Q.equivalent query.now) (Q.to_key_gives query.now)
             hash (F.post loader) result.1 self.new }
         ensures asks { Q.to_key_is_infallible query.now
@@ -142,7 +142,7 @@ impl<
         requires stands { StandsForGiven (Q.to_key_gives query.now) (Q.equivalent query.now) }
         requires loader { F.pre loader }
         // Where pinning is steady, a value fills the placeholder by a step of its definition.
-        ensures loads { LoadsBy ⟦<Self as Going>⟧.goes no_touches self.old
+        ensures loads { LoadsBy ⟦<Self as Ruled>⟧.goes no_touches self.old
             L.RequestState.is_default (Q.equivalent query.now) (Q.to_key_gives query.now)
             (⟦<Self as Keyed>⟧.hash self.old.builder (Q.hash_input query.now))
             (F.post loader) result self.new }

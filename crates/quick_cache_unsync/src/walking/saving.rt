@@ -10,7 +10,7 @@ ghost use Rattle.quick_cache_unsync.specs.Touches.{no_touches};
 use crate::cache::Cache;
 use quick_cache_model::{Lifecycle, Queue, Refusal, Weighter};
 use quick_cache_options::options::Options;
-use quick_cache_shard::{Going, Placeholder, SavedIter};
+use quick_cache_shard::{Placeholder, Ruled, SavedIter};
 use std::alloc::Allocator;
 use std::hash::{BuildHasher, Hash};
 
@@ -57,11 +57,11 @@ impl<
         L: Drop,
         requires can { I.can_next pairs }
         requires ends { IsFinite (I.remaining pairs) }
-        ensures restores { IfOk result (λ cache. RestoresInTurn ⟦<Self as Going>⟧.goes K.eq
+        ensures restores { IfOk result (λ cache. RestoresInTurn ⟦<Self as Ruled>⟧.goes K.eq
             I.next_gives pairs (made_with (empty_by options) weigher builder lifecycle)
             (Ok tt) cache) }
         ensures stops { IfErr result (λ refusal. A.is_infallible alloc
-            → StopsInTurn ⟦<Self as Going>⟧.goes K.eq I.next_gives pairs
+            → StopsInTurn ⟦<Self as Ruled>⟧.goes K.eq I.next_gives pairs
             (made_with (empty_by options) weigher builder lifecycle) refusal) }
     {
         let mut cache = Cache::with_options(alloc, options, weigher, builder, lifecycle)?;
@@ -84,7 +84,7 @@ impl<
         requires can { I.can_next pairs }
         requires ends { IsFinite (I.remaining pairs) }
         // Each pair comes back or is left out, until one is refused or none is left.
-        ensures restores { RestoresInTurn ⟦<Self as Going>⟧.goes K.eq I.next_gives pairs
+        ensures restores { RestoresInTurn ⟦<Self as Ruled>⟧.goes K.eq I.next_gives pairs
             self.old result self.new }
         ensures same { KeepsWork self.old self.new }
     {
@@ -98,9 +98,9 @@ impl<
 
     // Puts a pair back, and drops it where something is known of its key.
     fn restore_or_drop(&mut self, key: K, value: V, queue: Queue, mark: u8) -> Result<(), Refusal>
-        ensures comes { OnOk result (ComesBack ⟦<Self as Going>⟧.goes K.eq self.old
+        ensures comes { OnOk result (ComesBack ⟦<Self as Ruled>⟧.goes K.eq self.old
             (key, value, queue, mark) self.new) }
-        ensures refuses { IfErr result (λ refusal. RestoresBy ⟦<Self as Going>⟧.goes no_touches
+        ensures refuses { IfErr result (λ refusal. RestoresBy ⟦<Self as Ruled>⟧.goes no_touches
             self.old K.eq key value queue mark (Err (key, value, Some refusal)) self.new) }
         ensures same { KeepsWork self.old self.new }
     {
@@ -126,7 +126,7 @@ impl<
         queue: Queue,
         mark: u8,
     ) -> Result<(), (K, V, Option<Refusal>)>
-        ensures restores { RestoresBy ⟦<Self as Going>⟧.goes no_touches self.old K.eq
+        ensures restores { RestoresBy ⟦<Self as Ruled>⟧.goes no_touches self.old K.eq
             key value queue mark result self.new }
         // It takes room for one entry at most, and asks for memory only where there is no room.
         ensures asks { IfErr result (λ back. back.2 ≡ Some Refusal.Memory → self.old.room ≡ 0) }

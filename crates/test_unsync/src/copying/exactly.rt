@@ -13,7 +13,7 @@ ghost use Rattle.quick_cache_unsync.specs.Touches.{no_touches};
 use quick_cache_base::protocol::{Answer, Core, Event, run as run_loading};
 use quick_cache_base::{Lifecycle, Refusal, Weighter};
 use quick_cache_runs::{Call, Reply, run};
-use quick_cache_shard::Going;
+use quick_cache_shard::Ruled;
 use quick_cache_unsync::Cache;
 use std::alloc::{Allocator, Global};
 use std::hash::{BuildHasher, Hash};
@@ -44,9 +44,9 @@ fn run_exactly<
     requires clones { ClonesExactly V.is_clone }
     ensures runs { L.steady cache.old.lifecycle → (answers : F → K → V → Bool)
         → All (IfAsks (λ asked. IsAnsweredAs F.Fn asked (answers asked))) calls.items → RunsCalls
-        (rules_in ⟦<Cache<K, V, We, B, L, A> as Going>⟧.goes no_touches cache.old)
+        (rules_in ⟦<Cache<K, V, We, B, L, A> as Ruled>⟧.goes no_touches cache.old)
         K.eq IsItself IsItself answers
-        (hooks_in ⟦<Cache<K, V, We, B, L, A> as Going>⟧.goes cache.old)
+        (hooks_in ⟦<Cache<K, V, We, B, L, A> as Ruled>⟧.goes cache.old)
         cache.old.state state.old calls.items result cache.new.state state.new }
 {
     run(alloc, cache, calls, state)
@@ -67,9 +67,9 @@ fn run_numbers<
     requires callable { All (IfAsks (λ asked. F.IsAlwaysCallable asked)) calls.items }
     ensures runs { L.steady cache.old.lifecycle → (answers : F → ℕ → ℕ → Bool)
         → All (IfAsks (λ asked. IsAnsweredAs F.Fn asked (answers asked))) calls.items → RunsCalls
-        (rules_in ⟦<Cache<u64, u64, We, B, L> as Going>⟧.goes no_touches cache.old)
+        (rules_in ⟦<Cache<u64, u64, We, B, L> as Ruled>⟧.goes no_touches cache.old)
         nat_eq IsItself IsItself answers
-        (hooks_in ⟦<Cache<u64, u64, We, B, L> as Going>⟧.goes cache.old)
+        (hooks_in ⟦<Cache<u64, u64, We, B, L> as Ruled>⟧.goes cache.old)
         cache.old.state state.old calls.items result cache.new.state state.new }
 {
     run(alloc, cache, calls, state)

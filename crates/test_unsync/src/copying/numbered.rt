@@ -9,7 +9,7 @@ ghost use Rattle.quick_cache_unsync.specs.Touches.{no_touches};
 
 use quick_cache_base::{DefaultHashBuilder, Lifecycle, UnitWeighter, Weighter};
 use quick_cache_runs::{Call, Reply, run};
-use quick_cache_shard::Going;
+use quick_cache_shard::Ruled;
 use quick_cache_unsync::Cache;
 use std::alloc::Global;
 use std::hash::{BuildHasher, Hash};
@@ -45,10 +45,10 @@ fn run_numbered<
     ensures conserves { L.steady cache.old.lifecycle → (answers : F → K → _ → Bool)
         → All (IfAsks (λ asked. IsAnsweredAs F.Fn asked (answers asked))) calls.items
         → ConservesCalls
-        (rules_in ⟦<Cache<K, Numbered<V>, We, B, L> as Going>⟧.goes no_touches cache.old)
+        (rules_in ⟦<Cache<K, Numbered<V>, We, B, L> as Ruled>⟧.goes no_touches cache.old)
         K.eq K.is_clone (λ value shown. V.is_clone value.value shown.value
         × (shown.number ≡ value.number)) answers
-        (hooks_in ⟦<Cache<K, Numbered<V>, We, B, L> as Going>⟧.goes cache.old)
+        (hooks_in ⟦<Cache<K, Numbered<V>, We, B, L> as Ruled>⟧.goes cache.old)
         cache.old.state state.old calls.items result cache.new.state state.new }
 {
     run(alloc, cache, calls, state)

@@ -13,7 +13,7 @@ ghost use Rattle.quick_cache_unsync.specs.Touches.{no_touches};
 use quick_cache_base::protocol::{Answer, Core, Event, run as run_loading, step};
 use quick_cache_base::{Lifecycle, Refusal, Weighter};
 use quick_cache_runs::{Call, Reply, run};
-use quick_cache_shard::Going;
+use quick_cache_shard::Ruled;
 use quick_cache_unsync::Cache;
 use std::alloc::Global;
 use std::hash::{BuildHasher, Hash};
@@ -38,9 +38,9 @@ fn run_texts<
     requires callable { All (IfAsks (λ asked. F.IsAlwaysCallable asked)) calls.items }
     ensures runs { L.steady cache.old.lifecycle → (answers : F → _ → _ → Bool)
         → All (IfAsks (λ asked. IsAnsweredAs F.Fn asked (answers asked))) calls.items → RunsCalls
-        (rules_in ⟦<Cache<String, String, We, B, L> as Going>⟧.goes no_touches cache.old)
+        (rules_in ⟦<Cache<String, String, We, B, L> as Ruled>⟧.goes no_touches cache.old)
         string_eq HasSameBytes HasSameBytes answers
-        (hooks_in ⟦<Cache<String, String, We, B, L> as Going>⟧.goes cache.old)
+        (hooks_in ⟦<Cache<String, String, We, B, L> as Ruled>⟧.goes cache.old)
         cache.old.state state.old calls.items result cache.new.state state.new }
 {
     run(alloc, cache, calls, state)
