@@ -5,22 +5,34 @@ use qcrun_parts::{HELP, serve};
 use std::process::ExitCode;
 use std::{env, io};
 
-/// Whether the first word behind the program's name asks for help.
-fn asks_for_help(rt: &HostRuntime) -> io::Result<bool> {
-    match env::args(rt)?.nth(1) {
-        Some(word) => Ok(word.as_str() == "--help"),
-        None => Ok(false),
+/// Tells what a word behind the program's name asks for.
+fn tell(rt: &HostRuntime, word: &str) -> io::Result<ExitCode> {
+    match word {
+        "--help" => print!(rt; "{HELP}")?,
+        "--version" => println!(rt; "qcrun 0.7.0")?,
+        _ => {
+            eprintln!(rt; "qcrun: unknown argument `{word}`: it takes --help, --version, or none")?;
+            return Ok(ExitCode::from(2));
+        }
     }
+    Ok(ExitCode::SUCCESS)
 }
 
 /// Serves standard input to standard output, and tells standard error why a line is bad.
-fn main(rt: HostRuntime) -> ExitCode {
-    if let Ok(true) = asks_for_help(&rt) {
-        return match print!(rt; "{HELP}") {
-            Ok(()) => ExitCode::from(0),
-            Err(_) => ExitCode::from(1),
-        };
+fn run(rt: &HostRuntime) -> io::Result<ExitCode> {
+    if let Some(word) = env::args(rt)?.nth(1) {
+        return tell(rt, word.as_str());
     }
-    let (mut writer, mut reasons) = (io::writer(&rt), rt.stderr());
-    ExitCode::from(serve(rt.alloc(), rt.reader(), &mut writer, &mut reasons))
+    let (mut writer, mut reasons) = (io::writer(rt), rt.stderr());
+    Ok(ExitCode::from(serve(rt.alloc(), rt.reader(), &mut writer, &mut reasons)))
+}
+
+fn main(rt: HostRuntime) -> ExitCode {
+    match run(&rt) {
+        Ok(status) => status,
+        Err(error) => {
+            let _ = eprintln!(rt; "qcrun: {error}");
+            ExitCode::FAILURE
+        }
+    }
 }

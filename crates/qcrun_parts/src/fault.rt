@@ -8,67 +8,98 @@ use std::str::from_utf8;
 
 /// Why a line cannot be served.
 #[derive(Debug, Clone, Copy, PartialEq, Eq)]
-pub enum Fault {
+pub enum Fault<'a> {
     /// It asks for a cache, and none stands.
     NoCache,
     /// It is longer than any line that is served.
     TooLong,
-    /// It begins with no command's name.
-    Unknown,
-    /// A word behind the name is no number, or no word is there.
-    NumberWanted,
-    /// It has more or fewer numbers than its command, or greater ones.
-    OtherNumbers,
+    /// It is no UTF-8.
+    NotText,
+    /// It ends with a carriage return.
+    CarriageReturn,
+    /// It begins with this word, which is no command's name.
+    Unknown(&'a str),
+    /// This word stands for a number, and is none that is read.
+    NotNumber(&'a str),
+    /// It has more or fewer numbers than its command, which is written so, or greater ones.
+    OtherNumbers(&'static str),
 }
 
-impl Display for Fault {
+impl Display for Fault<'_> {
     ghost output = { λ fault. Some (fault_text fault) };
 
     fn fmt<W: Write>(&self, f: &mut Formatter<W>) -> fmt::Result {
         match self {
             Fault::NoCache => f.write_str("no cache stands"),
             Fault::TooLong => f.write_str("more than 200 bytes"),
-            Fault::Unknown => f.write_str("unknown command"),
-            Fault::NumberWanted => f.write_str("a number is wanted"),
-            Fault::OtherNumbers => f.write_str("other numbers are wanted"),
+            Fault::NotText => f.write_str("it is no UTF-8"),
+            Fault::CarriageReturn => f.write_str("it ends with a carriage return"),
+            Fault::Unknown(word) => write!(f, "unknown command `{word}`"),
+            Fault::NotNumber(word) => {
+                write!(f, "`{word}` is no number from 0 to 18446744073709551615")
+            }
+            Fault::OtherNumbers(form) => write!(f, "it is written `{form}`"),
         }
     }
 }
 
 /// Why a line that is not too long could not be served.
-pub fn fault_of(line: &[u8]) -> Fault {
+pub fn fault_of(line: &[u8]) -> Fault<'_> {
     if command_of(line).is_ok() {
         return Fault::NoCache;
     }
     match from_utf8(line) {
         Ok(text) => fault_of_text(text),
-        Err(_) => Fault::Unknown,
+        Err(_) => Fault::NotText,
     }
 }
 
 /// Why a text is no command.
-fn fault_of_text(text: &str) -> Fault {
+fn fault_of_text(text: &str) -> Fault<'_> {
+    if text.ends_with('\r') {
+        return Fault::CarriageReturn;
+    }
     let (name, words) = match text.split_once(' ') {
         Some((name, words)) => (name, words),
         None => (text, ""),
     };
-    if !is_name(name) {
-        return Fault::Unknown;
+    let Some(form) = form_of(name) else {
+        return Fault::Unknown(name);
+    };
+    if words.is_empty() {
+        return Fault::OtherNumbers(form);
     }
     for word in words.split(' ') {
         if number(word).is_err() {
-            return Fault::NumberWanted;
+            return Fault::NotNumber(word);
         }
     }
-    Fault::OtherNumbers
+    Fault::OtherNumbers(form)
 }
 
-/// Whether a command has this name.
-fn is_name(word: &str) -> bool {
-    match word {
-        "cache" | "insert" | "replace" | "soft" | "get" | "peek" | "remove" | "removeif" => true,
-        "set" | "poke" | "load" | "fail" | "guard" | "drop" | "stats" => true,
-        "clear" | "capacity" | "hits" | "show" => true,
-        _ => false,
-    }
+/// How the command of this name is written.
+fn form_of(name: &str) -> Option<&'static str> {
+    let form = match name {
+        "cache" => "cache ITEMS WEIGHT [HOT GHOST [MARK]]",
+        "insert" => "insert KEY VALUE",
+        "replace" => "replace KEY VALUE",
+        "soft" => "soft KEY VALUE",
+        "removeif" => "removeif KEY VALUE",
+        "set" => "set KEY VALUE",
+        "poke" => "poke KEY VALUE",
+        "load" => "load KEY VALUE",
+        "guard" => "guard KEY VALUE",
+        "get" => "get KEY",
+        "peek" => "peek KEY",
+        "remove" => "remove KEY",
+        "fail" => "fail KEY",
+        "drop" => "drop KEY",
+        "stats" => "stats KEY",
+        "capacity" => "capacity WEIGHT",
+        "clear" => "clear",
+        "hits" => "hits",
+        "show" => "show",
+        _ => return None,
+    };
+    Some(form)
 }

@@ -68,7 +68,7 @@ impl<A: Allocator + Copy> LineServer for Session<A> {
 ///
 /// 0 at the end of the input; 1 where a read or a write failed, or where there was no memory to
 /// read into, and then nothing more is written; 2 behind a line that could not be served, which is
-/// told by its number. Why it could not be is written to `reasons`, if that can be written to.
+/// told by its number. Why it is 1 or 2 is written to `reasons`, if that can be written to.
 pub fn serve<A: Allocator + Copy, R: Read + Drop, W: Write, E: Write>(
     alloc: A,
     reader: R,
@@ -82,7 +82,10 @@ pub fn serve<A: Allocator + Copy, R: Read + Drop, W: Write, E: Write>(
     match serve_lines(alloc, Session::new(alloc), reader, writer, reasons) {
         Ok(Ending::EndOfInput) => 0,
         Ok(Ending::BadLine) => 2,
-        Err(_) => 1,
+        Err(error) => {
+            let _ = writeln!(reasons, "{error}");
+            1
+        }
     }
 }
 
@@ -117,7 +120,7 @@ fn serve_lines<A: Allocator + Copy, S: LineServer + Drop, R: Read + Drop, W: Wri
 /// Tells which line is bad, and why.
 fn tell_bad_line<W: Write, E: Write>(
     number: u64,
-    fault: Fault,
+    fault: Fault<'_>,
     writer: &mut W,
     reasons: &mut E,
 ) -> io::Result<Ending>

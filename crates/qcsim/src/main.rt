@@ -149,15 +149,22 @@ fn run_over<R: Read + Drop>(
     match read_trace(rt.alloc(), rt, reader, arguments.reading) {
         Ok(trace) => take(rt, arguments, &trace),
         Err(BadTrace::Memory) => Err(no_memory()),
-        Err(BadTrace::Read(error)) => Err(error),
+        Err(BadTrace::Read(error)) => unread(rt, arguments, &error),
         Err(BadTrace::Line(bad)) => {
             eprintln!(rt;
-                "qcsim: line {} is bad: {}: {:?}",
+                "qcsim: line {} is bad: {}: `{}`",
                 bad.number, bad.flaw, bad.start
             )?;
             Ok(ExitCode::from(2))
         }
     }
+}
+
+/// Says why the trace could not be read.
+fn unread(rt: &HostRuntime, arguments: &Arguments<'_>, error: &io::Error) -> io::Result<ExitCode> {
+    let name = arguments.file.unwrap_or("standard input");
+    eprintln!(rt; "qcsim: {name}: {error}")?;
+    Ok(ExitCode::FAILURE)
 }
 
 /// Opens the trace.
@@ -167,22 +174,30 @@ fn run(rt: &HostRuntime, arguments: &Arguments<'_>) -> io::Result<ExitCode> {
     };
     match File::open(rt, path) {
         Ok(file) => run_over(rt, arguments, file),
+        Err(error) => unread(rt, arguments, &error),
+    }
+}
+
+/// Reads the arguments, and does what they ask for.
+fn start(rt: &HostRuntime) -> io::Result<ExitCode> {
+    let words = words(rt)?;
+    match read_arguments(rt.alloc(), &words) {
+        Ok(arguments) => run(rt, &arguments),
+        Err(error) if error.kind() == ArgumentError::OutOfMemory => Err(no_memory()),
         Err(error) => {
-            eprintln!(rt; "qcsim: {path}: {error}")?;
-            Ok(ExitCode::FAILURE)
+            error.print(rt)?;
+            let status = if error.use_stderr() { 2 } else { 0 };
+            Ok(ExitCode::from(status))
         }
     }
 }
 
-fn main(rt: HostRuntime) -> io::Result<ExitCode> {
-    let words = words(&rt)?;
-    match read_arguments(rt.alloc(), &words) {
-        Ok(arguments) => run(&rt, &arguments),
-        Err(error) if error.kind() == ArgumentError::OutOfMemory => Err(no_memory()),
+fn main(rt: HostRuntime) -> ExitCode {
+    match start(&rt) {
+        Ok(status) => status,
         Err(error) => {
-            error.print(&rt)?;
-            let status = if error.use_stderr() { 2 } else { 0 };
-            Ok(ExitCode::from(status))
+            let _ = eprintln!(rt; "qcsim: {error}");
+            ExitCode::FAILURE
         }
     }
 }

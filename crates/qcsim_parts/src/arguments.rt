@@ -145,6 +145,7 @@ fn capacity<'a>(alloc: Global) -> Arg<'a> {
 fn command<'a>(alloc: Global) -> Result<Command<'a>, AllocError> {
     let mut command = Command::new(alloc, "qcsim")
         .about("Shows which share of the keys of a trace each of some caches has")
+        .version("0.7.0")
         .no_binary_name(true);
     for named in NAMED.iter() {
         command = command.arg(argument(alloc, named))?;
@@ -188,36 +189,73 @@ fn read_given<'a>(matches: &ArgMatches<'a>) -> Given<'a> {
     }
 }
 
-/// A number in a range.
-fn number(text: &str, least: u32, most: u32) -> Option<u32> {
-    match text.parse() {
-        Ok(number) if least <= number && number <= most => Some(number),
-        _ => None,
+/// What is wrong with an argument: its name, what it may be, and the word that is none of that.
+#[derive(Clone, Copy)]
+struct Wrong<'a> {
+    name: &'static str,
+    wanted: &'static str,
+    word: &'a str,
+}
+
+impl Wrong<'_> {
+    /// The sentence that tells it.
+    fn told(&self, alloc: Global) -> Result<String, AllocError> {
+        let Wrong { name, wanted, word } = self;
+        format!(in alloc; "{name} is {wanted}, and not `{word}`")
     }
 }
 
-impl Given<'_> {
-    fn shares(&self) -> Option<Shares> {
-        Some(Shares {
-            hot: number(self.hot, 0, 1_000_000)?,
-            ghosts: number(self.ghosts, 0, 1_000_000)?,
-            mark_cut: u8::try_from(number(self.mark_cut, 1, 3)?).unwrap_or(2),
+/// A number in a range, which is the value of the argument of this name.
+fn number<'a>(
+    name: &'static str,
+    wanted: &'static str,
+    word: &'a str,
+    least: u32,
+    most: u32,
+) -> Result<u32, Wrong<'a>> {
+    match word.parse() {
+        Ok(number) if least <= number && number <= most => Ok(number),
+        _ => Err(Wrong { name, wanted, word }),
+    }
+}
+
+impl<'a> Given<'a> {
+    fn shares(&self) -> Result<Shares, Wrong<'a>> {
+        let share = "a number from 0 to 1000000";
+        let mark_cut = number("--mark-cut", "1, 2 or 3", self.mark_cut, 1, 3)?;
+        Ok(Shares {
+            hot: number("--hot", share, self.hot, 0, 1_000_000)?,
+            ghosts: number("--ghosts", share, self.ghosts, 0, 1_000_000)?,
+            mark_cut: u8::try_from(mark_cut).unwrap_or(2),
         })
     }
 
+    /// What is wrong with the format.
+    fn wrong_format(&self, wanted: &'static str) -> Wrong<'a> {
+        Wrong {
+            name: "--format",
+            wanted,
+            word: self.format,
+        }
+    }
+
     /// How the trace is read, where it is known and weights have a meaning.
-    fn reading(&self) -> Option<Reading> {
-        let format = Format::named(self.format)?;
+    fn reading(&self) -> Result<Reading, Wrong<'a>> {
+        let Some(format) = Format::named(self.format) else {
+            return Err(self.wrong_format("keys, text, arc, csv:N or csv:N:WEIGHT"));
+        };
         let weighted = match format {
             Format::Keys | Format::Text => self.asks_weights,
             Format::Csv {
                 weight: Some(_),
                 ..
             } => true,
-            _ if self.asks_weights => return None,
+            _ if self.asks_weights => {
+                return Err(self.wrong_format("keys, text or csv:N:WEIGHT beside --weights"));
+            }
             _ => false,
         };
-        Some(Reading {
+        Ok(Reading {
             format,
             weighted,
             skips_bad: self.skips_bad,
@@ -225,39 +263,40 @@ impl Given<'_> {
     }
 }
 
-/// The capacities, the least first; none where one of them is no number above 0.
-fn capacities_of(alloc: Global, words: &[&str]) -> Result<Vec<u64>, AllocError> {
+/// The capacities, the least first, or the word that is none.
+fn capacities_of<'a>(
+    alloc: Global,
+    words: &[&'a str],
+) -> Result<Result<Vec<u64>, Wrong<'a>>, AllocError> {
     let mut capacities = Vec::new(alloc);
     for word in words {
         match word.parse() {
             Ok(capacity) if capacity > 0u64 => capacities.push(capacity)?,
-            _ => return Ok(Vec::new(alloc)),
+            _ => {
+                return Ok(Err(Wrong {
+                    name: "CAPACITY",
+                    wanted: "a number from 1 to 18446744073709551615",
+                    word,
+                }));
+            }
         }
     }
     capacities.sort()?;
-    Ok(capacities)
+    Ok(Ok(capacities))
 }
 
-/// What was asked for, or else what should have been given.
-fn arguments_of(given: Given<'_>, capacities: Vec<u64>) -> Result<Arguments<'_>, &'static str> {
-    let Some(reading) = given.reading() else {
-        return Err(
-            "FORMAT is keys, text, arc, csv:N or csv:N:WEIGHT, and arc and csv:N have no weights",
-        );
-    };
-    let Some(shares) = given.shares() else {
-        return Err("a share is a number up to 1000000, and the mark cut 1, 2 or 3");
-    };
-    if capacities.is_empty() {
-        return Err("CAPACITY is a number of 64 bits above 0");
-    }
+/// What was asked for, or what is wrong with it.
+fn arguments_of<'a>(
+    given: Given<'a>,
+    capacities: Result<Vec<u64>, Wrong<'a>>,
+) -> Result<Arguments<'a>, Wrong<'a>> {
     Ok(Arguments {
         file: given.file,
-        reading,
-        shares,
+        reading: given.reading()?,
+        shares: given.shares()?,
         form: given.form,
         title: given.title,
-        capacities,
+        capacities: capacities?,
     })
 }
 
@@ -272,6 +311,9 @@ pub fn read_arguments<'a>(alloc: Global, words: &'a [String]) -> Result<Argument
     let capacities = capacities_of(alloc, matches.get_strs("capacity").unwrap_or(&[]))?;
     match arguments_of(read_given(&matches), capacities) {
         Ok(arguments) => Ok(arguments),
-        Err(wanted) => Err(command.error(ErrorKind::InvalidValue, wanted)?),
+        Err(wrong) => {
+            let told = wrong.told(alloc)?;
+            Err(command.error(ErrorKind::InvalidValue, told.as_str())?)
+        }
     }
 }

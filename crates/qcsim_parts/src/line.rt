@@ -52,6 +52,9 @@ impl Format {
     }
 }
 
+/// The most blocks that a line asks for.
+const MOST_BLOCKS: u64 = 1_048_576;
+
 /// What a line asks for: keys one behind another, each of the same weight.
 #[derive(Clone, Copy)]
 pub struct Asked {
@@ -72,6 +75,8 @@ pub enum Flaw {
     NotNumber,
     /// It is not four numbers, of which the first two name blocks.
     NotBlocks,
+    /// It asks for more blocks than a line may.
+    TooManyBlocks,
     /// It has no column of this number.
     NoColumn(usize),
     /// It has no weight, or one that is no number of 32 bits.
@@ -84,6 +89,7 @@ impl fmt::Display for Flaw {
             Flaw::NotUtf8(place) => write!(f, "from byte {place} on it is no UTF-8"),
             Flaw::NotNumber => write!(f, "it is no number from 0 to 18446744073709551615"),
             Flaw::NotBlocks => write!(f, "it is not `start count ignored request`"),
+            Flaw::TooManyBlocks => write!(f, "it asks for more than {MOST_BLOCKS} blocks"),
             Flaw::NoColumn(number) => write!(f, "it has no column {number}"),
             Flaw::NotWeight => write!(f, "its weight is no number from 0 to 4294967295"),
         }
@@ -145,12 +151,13 @@ fn blocks(line: &str) -> Option<(u64, u64)> {
     let count = number_of(words.next())?;
     number_of(words.next())?;
     number_of(words.next())?;
-    first.checked_add(count)?;
+    first.checked_add(count.saturating_sub(1))?;
     Some((first, count))
 }
 
 fn read_blocks(line: &str) -> Result<Asked, Flaw> {
     match blocks(line) {
+        Some((_, count)) if count > MOST_BLOCKS => Err(Flaw::TooManyBlocks),
         Some((first, count)) => Ok(Asked {
             first,
             count,

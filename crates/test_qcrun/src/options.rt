@@ -89,7 +89,8 @@ fn a_share_above_the_greatest_is_bad(rt: HostRuntime) {
     ];
     for (script, wanted, line) in scripts {
         let mut reason = String::new(rt.alloc());
-        assert!(rt; writeln!(reason, "{line}other numbers are wanted").is_ok());
+        let form = "cache ITEMS WEIGHT [HOT GHOST [MARK]]";
+        assert!(rt; writeln!(reason, "{line}it is written `{form}`").is_ok());
         check_bad(&rt, rt.alloc(), script, wanted, &reason);
     }
 }

@@ -232,28 +232,49 @@ fn a_bad_line_ends_the_script(rt: HostRuntime) {
         "line 1: no cache stands\n",
     );
     let lines: [(&str, &str); 22] = [
-        ("get 1\r", "a number is wanted"),
-        ("\r", "unknown command"),
-        ("get  1", "a number is wanted"),
-        ("get 1 ", "a number is wanted"),
-        (" get 1", "unknown command"),
-        ("get", "a number is wanted"),
-        ("gets 1", "unknown command"),
-        ("get one", "a number is wanted"),
-        ("get +1", "a number is wanted"),
-        ("get -1", "a number is wanted"),
-        ("get 000000000000000000001", "a number is wanted"),
-        ("get 18446744073709551616", "a number is wanted"),
-        ("show all", "a number is wanted"),
-        ("cache 1 1 1", "other numbers are wanted"),
-        ("cache 1 1 1 1 1 1", "other numbers are wanted"),
-        ("cache 1 1 4294967296 1", "other numbers are wanted"),
-        ("insert 1 1 1 1", "other numbers are wanted"),
-        ("replace 1", "other numbers are wanted"),
-        ("removeif 1", "other numbers are wanted"),
-        ("stats", "a number is wanted"),
-        ("clear 1", "other numbers are wanted"),
-        ("capacity 1 1", "other numbers are wanted"),
+        ("get 1\r", "it ends with a carriage return"),
+        ("\r", "it ends with a carriage return"),
+        ("get  1", "`` is no number from 0 to 18446744073709551615"),
+        ("get 1 ", "`` is no number from 0 to 18446744073709551615"),
+        (" get 1", "unknown command ``"),
+        ("get", "it is written `get KEY`"),
+        ("gets 1", "unknown command `gets`"),
+        (
+            "get one",
+            "`one` is no number from 0 to 18446744073709551615",
+        ),
+        ("get +1", "`+1` is no number from 0 to 18446744073709551615"),
+        ("get -1", "`-1` is no number from 0 to 18446744073709551615"),
+        (
+            "get 000000000000000000001",
+            "`000000000000000000001` is no number from 0 to 18446744073709551615",
+        ),
+        (
+            "get 18446744073709551616",
+            "`18446744073709551616` is no number from 0 to 18446744073709551615",
+        ),
+        (
+            "show all",
+            "`all` is no number from 0 to 18446744073709551615",
+        ),
+        (
+            "cache 1 1 1",
+            "it is written `cache ITEMS WEIGHT [HOT GHOST [MARK]]`",
+        ),
+        (
+            "cache 1 1 1 1 1 1",
+            "it is written `cache ITEMS WEIGHT [HOT GHOST [MARK]]`",
+        ),
+        (
+            "cache 1 1 4294967296 1",
+            "it is written `cache ITEMS WEIGHT [HOT GHOST [MARK]]`",
+        ),
+        ("insert 1 1 1 1", "it is written `insert KEY VALUE`"),
+        ("replace 1", "it is written `replace KEY VALUE`"),
+        ("removeif 1", "it is written `removeif KEY VALUE`"),
+        ("stats", "it is written `stats KEY`"),
+        ("clear 1", "it is written `clear`"),
+        ("capacity 1 1", "it is written `capacity WEIGHT`"),
     ];
     for (line, reason) in lines {
         let (mut script, mut told) = (Vec::new(rt.alloc()), String::new(rt.alloc()));
@@ -273,7 +294,7 @@ fn a_bad_line_ends_the_script(rt: HostRuntime) {
         rt.alloc(),
         b"cache 1 1\n\nget \xff\n",
         "ok\nbad line 3\n",
-        "line 3: unknown command\n",
+        "line 3: it is no UTF-8\n",
     );
 }
 
@@ -400,23 +421,24 @@ fn two_of_each_are_shown_in_order(rt: HostRuntime) -> Result<(), Fail> {
 
 #[test]
 fn a_long_line_is_bad_however_long(rt: HostRuntime) -> Result<(), Fail> {
-    for (length, reason) in [
-        (200, "line 2: unknown command\n"),
-        (201, "line 2: more than 200 bytes\n"),
-        (100000, "line 2: more than 200 bytes\n"),
-    ] {
-        let mut script = Vec::new(rt.alloc());
-        write!(script, "cache 5 5\n")?;
+    for length in [200, 201, 100000] {
+        let (mut script, mut line) = (Vec::new(rt.alloc()), String::new(rt.alloc()));
         for _ in 0..length {
-            script.push(b'1')?;
+            line.push('1')?;
         }
-        write!(script, "\nget 1\n")?;
+        write!(script, "cache 5 5\n{line}\nget 1\n")?;
+        let mut reason = String::new(rt.alloc());
+        if length == 200 {
+            writeln!(reason, "line 2: unknown command `{line}`")?;
+        } else {
+            writeln!(reason, "line 2: more than 200 bytes")?;
+        }
         check_bad(
             &rt,
             rt.alloc(),
             script.as_slice(),
             "ok\nbad line 2\n",
-            reason,
+            &reason,
         );
     }
     Ok(())

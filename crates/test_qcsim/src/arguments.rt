@@ -31,7 +31,7 @@ fn arguments_are_understood_or_end_with_a_status(rt: HostRuntime) -> Result<(), 
         key: 2,
         weight: Some(4),
     };
-    let rows: [(&[&str], Result<(Format, bool, Form, u64), i32>); 21] = [
+    let rows: [(&[&str], Result<(Format, bool, Form, u64), i32>); 22] = [
         (&["20", "10"], Ok((Format::Keys, false, Form::Table, 10))),
         (
             &["--svg", "4294967296"],
@@ -62,6 +62,7 @@ fn arguments_are_understood_or_end_with_a_status(rt: HostRuntime) -> Result<(), 
             Ok((Format::Keys, false, Form::Counts, 7)),
         ),
         (&["--help"], Err(0)),
+        (&["--version"], Err(0)),
         (&[], Err(2)),
         (&["--svg"], Err(2)),
         (&["0"], Err(2)),

@@ -19,7 +19,7 @@ const WEIGHED_CSV: Format = Format::Csv {
 
 #[test]
 fn a_line_is_read_by_its_format_or_told_why_not(rt: HostRuntime) -> Result<(), Fail> {
-    let rows: [(Format, bool, &[u8], Result<(u64, u64, u32), Flaw>); 22] = [
+    let rows: [(Format, bool, &[u8], Result<(u64, u64, u32), Flaw>); 25] = [
         (Format::Keys, false, b"7\n", Ok((7, 1, 1))),
         (
             Format::Keys,
@@ -48,7 +48,20 @@ fn a_line_is_read_by_its_format_or_told_why_not(rt: HostRuntime) -> Result<(), F
             Format::Arc,
             false,
             b"18446744073709551615 1 0 1\n",
+            Ok((u64::MAX, 1, 1)),
+        ),
+        (
+            Format::Arc,
+            false,
+            b"18446744073709551615 2 0 1\n",
             Err(Flaw::NotBlocks),
+        ),
+        (Format::Arc, false, b"0 1048576 0 0\n", Ok((0, 1048576, 1))),
+        (
+            Format::Arc,
+            false,
+            b"0 99999999999 0 0\n",
+            Err(Flaw::TooManyBlocks),
         ),
         (CSV, false, b"a\n", Err(Flaw::NoColumn(2))),
         (CSV, false, b"a,\xc3\n", Err(Flaw::NotUtf8(3))),
