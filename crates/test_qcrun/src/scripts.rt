@@ -464,13 +464,13 @@ impl Read for BrokenReader {
 
 #[test]
 fn a_failed_read_ends_it(rt: HostRuntime) {
-    let mut written = Vec::new(rt.alloc());
+    let (mut written, mut reasons) = (Vec::new(rt.alloc()), Vec::new(rt.alloc()));
     let reader = BrokenReader {
         text: b"cache 1 1\nget 1\nget",
         is_read: false,
     };
-    let status = serve(rt.alloc(), reader, &mut written, &mut Vec::new(rt.alloc()));
-    expect_eq!(rt; status, 1);
+    let status = serve(rt.alloc(), reader, &mut written, &mut reasons);
+    expect_eq!(rt; (status, reasons.is_empty()), (1, false));
     expect_eq!(rt; written.as_slice(), b"ok\nnone\n".as_slice());
 }
 
