@@ -27,4 +27,5 @@ made zipf-1.1 "Zipf's law, skew 1.1" -v kind=zipf -v skew=1.1
 made scans "Zipf's law, skew 0.9, with scans" -v kind=scans -v skew=0.9 -v every=10000 -v scan=5000
 made loop "A loop of 20,000 keys" -v kind=loop
 made shift "A hot set that shifts" -v kind=shift -v skew=0.9 -v every=100000
+made window "A window that moves on" -v kind=window
 made backup "A database and its backup" -v kind=backup -v skew=0.9 -v every=1 -v scan=2

@@ -8,6 +8,8 @@
 #      scans   the same, and behind each `every` keys a scan of `scan` keys that never came before
 #      loop    keys 1 to items in turn, again and again
 #      shift   as zipf, but behind each `every` keys each rank goes to the next tenth of the items
+#      window  a window of 400 to 3,000 keys, whose front is asked for more than its end, and which
+#              goes on by up to its length behind 3,000 to 9,000 keys; one key of ten is any of all
 #      backup  a database and its backup: a query asks for the index page of a data page and then for
 #              that page itself, whose ranks lie scattered; and from the second fifth of the keys to
 #              the fourth a backup reads each data page in turn, `scan` of them behind `every` queries
@@ -47,6 +49,17 @@ function queried(  page, more) {
   }
 }
 
+# a key of the window, or one of ten any key
+function windowed() {
+  if (left-- == 0) {
+    front += int(drawn() * (width + 1))
+    width = 400 + int(drawn() * 2601)
+    left = 2999 + int(drawn() * 6001)
+  }
+  if (drawn() < 0.1) return int(drawn() * items) + 1
+  return (front + int(drawn() * drawn() * width)) % items + 1
+}
+
 # so many keys that never came before
 function scanned(count) {
   for (; count > 0 && made < keys; count--) {
@@ -65,6 +78,7 @@ BEGIN {
       continue
     }
     if (kind == "loop") print made % items + 1
+    else if (kind == "window") print windowed()
     else if (kind == "shift") print (rank() + int(made / every) * int(items / 10)) % items + 1
     else print rank()
     made++
