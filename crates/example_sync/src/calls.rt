@@ -1,6 +1,7 @@
 //! An example of each call.
 
 pub mod keeping;
+pub mod loading;
 pub mod looking;
 pub mod making;
 pub mod removing;

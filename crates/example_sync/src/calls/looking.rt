@@ -91,3 +91,13 @@ fn hottest(rt: HostRuntime) -> Result<(), Fail> {
     expect_eq!(rt; (shown[0].key, shown[0].mark), ("square", 1));
     Ok(())
 }
+
+#[test]
+fn iter(rt: HostRuntime) -> Result<(), Fail> {
+    let cache = Cache::new(rt.alloc(), 100)?;
+    expect!(rt; cache.insert(&rt, "square", 4).is_ok());
+    // A walk shows clones, and holds no lock between its steps.
+    let mut walk = cache.iter(&rt);
+    expect_eq!(rt; (walk.next(), walk.next()), (Some(Ok(("square", 4))), None));
+    Ok(())
+}

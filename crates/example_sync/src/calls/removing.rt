@@ -39,6 +39,19 @@ fn retain(rt: HostRuntime) -> Result<(), Fail> {
 }
 
 #[test]
+fn retain_some(rt: HostRuntime) -> Result<(), Fail> {
+    let cache: Cache<u64, u64> = Cache::new(rt.alloc(), 10)?;
+    for key in 1..4u64 {
+        expect_eq!(rt; cache.insert(&rt, key, key * 10), Ok(()));
+    }
+    // Two items of the first shard are looked at, and then those behind them.
+    let (after, first) = cache.retain_some(&rt, 0, None, 2, |key, _| *key == 2);
+    let (rest, second) = cache.retain_some(&rt, 0, after, 2, |key, _| *key == 2);
+    expect_eq!(rt; (first, second, rest.is_none()), (1, 1, true));
+    Ok(())
+}
+
+#[test]
 fn invalidate_if(rt: HostRuntime) -> Result<(), Fail> {
     let cache: Cache<u64, u64> = Cache::new(rt.alloc(), 100)?;
     for key in 1..4u64 {
