@@ -1,5 +1,5 @@
 use Rattle.test_threads.proofs.traced.seats.a_history_has_the_calls_of_each_thread_in_its_order.Given as goal
 
 -- the ledger is the one of the blank
-abbrev pub ghosts-two_thousand : goal.ghosts-two_thousand
-ghosts-two_thousand g a = record { name = a.blank.name; parts = a.blank.parts }
+abbrev pub ghosts-made_by_two : goal.ghosts-made_by_two
+ghosts-made_by_two g a = record { name = a.blank.name; parts = a.blank.parts }
