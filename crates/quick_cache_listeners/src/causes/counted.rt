@@ -57,32 +57,20 @@ impl<K: Eq + Drop, V: Drop, W: Weighter<K, V>, L: Lifecycle<K, V>> Lifecycle<K, 
     }
 
     fn on_evict(&self, state: &mut Request<Counts<L::RequestState>>, key: K, val: V) {
-        let weight = self.0.weight(&key, &val);
-        state
-            .state
-            .tallies
-            .count(state.stage.cause(Queue::Cold), weight);
-        state.stage = Stage::Told;
+        let cause = state.tell_next(Queue::Cold);
+        state.state.tallies.count(cause, self.0.weight(&key, &val));
         self.1.on_evict(&mut state.state.state, key, val);
     }
 
     fn on_evict_cold(&self, state: &mut Request<Counts<L::RequestState>>, key: K, val: V) {
-        let weight = self.0.weight(&key, &val);
-        state
-            .state
-            .tallies
-            .count(state.stage.cause(Queue::Cold), weight);
-        state.stage = Stage::Told;
+        let cause = state.tell_next(Queue::Cold);
+        state.state.tallies.count(cause, self.0.weight(&key, &val));
         self.1.on_evict_cold(&mut state.state.state, key, val);
     }
 
     fn on_evict_hot(&self, state: &mut Request<Counts<L::RequestState>>, key: K, val: V) {
-        let weight = self.0.weight(&key, &val);
-        state
-            .state
-            .tallies
-            .count(state.stage.cause(Queue::Hot), weight);
-        state.stage = Stage::Told;
+        let cause = state.tell_next(Queue::Hot);
+        state.state.tallies.count(cause, self.0.weight(&key, &val));
         self.1.on_evict_hot(&mut state.state.state, key, val);
     }
 }

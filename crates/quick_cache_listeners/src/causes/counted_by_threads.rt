@@ -54,23 +54,20 @@ impl<K: Eq + Drop, V: Drop, W: Weighter<K, V>, L: Lifecycle<K, V>, A: Allocator>
     }
 
     fn on_evict(&self, state: &mut Request<L::RequestState>, key: K, val: V) {
-        let weight = self.weigher.weight(&key, &val);
-        self.tallies.count(state.stage.cause(Queue::Cold), weight);
-        state.stage = Stage::Told;
+        let cause = state.tell_next(Queue::Cold);
+        self.tallies.count(cause, self.weigher.weight(&key, &val));
         self.inner.on_evict(&mut state.state, key, val);
     }
 
     fn on_evict_cold(&self, state: &mut Request<L::RequestState>, key: K, val: V) {
-        let weight = self.weigher.weight(&key, &val);
-        self.tallies.count(state.stage.cause(Queue::Cold), weight);
-        state.stage = Stage::Told;
+        let cause = state.tell_next(Queue::Cold);
+        self.tallies.count(cause, self.weigher.weight(&key, &val));
         self.inner.on_evict_cold(&mut state.state, key, val);
     }
 
     fn on_evict_hot(&self, state: &mut Request<L::RequestState>, key: K, val: V) {
-        let weight = self.weigher.weight(&key, &val);
-        self.tallies.count(state.stage.cause(Queue::Hot), weight);
-        state.stage = Stage::Told;
+        let cause = state.tell_next(Queue::Hot);
+        self.tallies.count(cause, self.weigher.weight(&key, &val));
         self.inner.on_evict_hot(&mut state.state, key, val);
     }
 }

@@ -3,6 +3,7 @@ ghost use Rattle.std.specs.Prelude.{◌≡◌};
 ghost use Rattle.quick_cache_model.specs.declared.queue.Queue.{Queue};
 ghost use Rattle.quick_cache_listeners.specs.declared.causes.cause.Cause.{Cause};
 ghost use Rattle.quick_cache_listeners.specs.declared.causes.cause.Stage.{Stage};
+ghost use Rattle.quick_cache_listeners.specs.Causes.{cause_at};
 ghost use Rattle.quick_cache_listeners.specs.Requests.{Arms, TellsWhy};
 
 use crate::causes::cause::{Cause, Stage};
@@ -62,6 +63,16 @@ impl<S> Request<S> {
     {
         self.stage = Stage::Fresh;
     }
+
+    // Why the pair leaves that the hook of this ring is told now.
+    pub(super) fn tell_next(&mut self, queue: Queue) -> Cause
+        ensures cause { result ≡ cause_at self.old.stage queue }
+        ensures told { self.new ≡ record self.old { stage = Stage.Told } }
+    {
+        let cause = self.stage.cause(queue);
+        self.stage = Stage::Told;
+        cause
+    }
 }
 
 /// The lifecycle that pins nothing, leaves each victim's value as it is, and hands each pair that
@@ -98,14 +109,12 @@ impl<K: Eq + Drop, V: Drop, L: ListenerWhy<K, V>> Lifecycle<K, V> for OnLeaveWhy
     }
 
     fn on_evict_cold(&self, state: &mut Request<L::State>, key: K, val: V) {
-        let cause = state.stage.cause(Queue::Cold);
-        state.stage = Stage::Told;
+        let cause = state.tell_next(Queue::Cold);
         self.0.tell(&mut state.state, key, val, cause);
     }
 
     fn on_evict_hot(&self, state: &mut Request<L::State>, key: K, val: V) {
-        let cause = state.stage.cause(Queue::Hot);
-        state.stage = Stage::Told;
+        let cause = state.tell_next(Queue::Hot);
         self.0.tell(&mut state.state, key, val, cause);
     }
 }
