@@ -4,11 +4,12 @@ ghost use Rattle.std.specs.Prelude.{All, IfOk};
 ghost use Rattle.quick_cache_runs.specs.Asked.{IfAsks};
 
 use crate::Predicate;
+use crate::asked::{Ask, Said, answers};
 use quick_cache_runs::{Call, Reply, run};
 use quick_cache_unsync::Cache;
 use std::alloc::{AllocError, Allocator, Global};
 use std::process::Abort;
-use test_tools::{Rationed, expect, expect_eq, expect_ok};
+use test_tools::{Rationed, expect_eq, expect_ok};
 
 /// How many entries or calls a test makes.
 const MANY: u64 = 70000;
@@ -17,7 +18,11 @@ const MANY: u64 = 70000;
 fn doubles(rt: &impl Abort, alloc: Global, count: u64) -> Cache<u64, u64> {
     let mut cache = expect_ok!(rt; Cache::new(alloc, count as usize));
     for key in 0..count {
-        expect_ok!(rt; cache.insert(key, key.saturating_mul(2)));
+        answers(
+            rt,
+            &mut cache,
+            &[(Ask::Insert(key, key.saturating_mul(2)), Said::Done)],
+        );
     }
     cache
 }
@@ -25,15 +30,25 @@ fn doubles(rt: &impl Abort, alloc: Global, count: u64) -> Cache<u64, u64> {
 #[test]
 fn ample_memory_is_never_refused(rt: HostRuntime) {
     let mut cache = doubles(&rt, rt.alloc(), MANY);
-    expect_eq!(rt; cache.len(), MANY as usize);
+    answers(
+        &rt,
+        &mut cache,
+        &[(Ask::Counts, Said::Counts([MANY, MANY, MANY, 0, 0]))],
+    );
     for key in 0..MANY {
         let double = key.saturating_mul(2);
-        expect_eq!(rt; cache.get(&key).copied(), Some(double));
-        expect_eq!(rt; cache.insert(key, double), Ok(()));
-        expect_eq!(rt; cache.remove(&key), Some((key, double)));
+        let row = [
+            (Ask::Get(key), Said::Value(double)),
+            (Ask::Insert(key, double), Said::Done),
+            (Ask::Remove(key), Said::Pair(key, double)),
+        ];
+        answers(&rt, &mut cache, &row);
     }
-    expect!(rt; cache.is_empty());
-    expect_eq!(rt; (cache.hits(), cache.misses()), (MANY, 0));
+    answers(
+        &rt,
+        &mut cache,
+        &[(Ask::Counts, Said::Counts([0, 0, MANY, MANY, 0]))],
+    );
 }
 
 #[test]
@@ -42,7 +57,8 @@ fn a_clone_has_seventy_thousand_entries(rt: HostRuntime) {
     let mut copy = expect_ok!(rt; cache.try_clone());
     expect_eq!(rt; copy.len(), MANY as usize);
     for key in 0..MANY {
-        expect_eq!(rt; copy.remove(&key), Some((key, key.saturating_mul(2))));
+        let taken = Said::Pair(key, key.saturating_mul(2));
+        answers(&rt, &mut copy, &[(Ask::Remove(key), taken)]);
     }
     expect_eq!(rt; (cache.len(), copy.len()), (MANY as usize, 0));
 }

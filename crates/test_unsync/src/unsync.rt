@@ -3,36 +3,49 @@ mod answered;
 mod great;
 mod memory;
 
+use crate::asked::{Ask, Said, answers, answers_of_new, inserts};
 use quick_cache_base::{DefaultHashBuilder, Refusal, UnitWeighter};
-use quick_cache_unsync::{Cache, DefaultLifecycle, NotLoaded};
+use quick_cache_unsync::{Cache, DefaultLifecycle};
 use std::alloc::Global;
 use test_parts::counting::{Counting, Told};
 use test_tools::{Rationed, expect, expect_eq, expect_ok};
 
 #[test]
 fn what_was_inserted_is_found(rt: HostRuntime) {
-    let mut cache: Cache<&str, &str> = expect_ok!(rt; Cache::new(rt.alloc(), 5));
-    expect_ok!(rt; cache.insert("square", "blue"));
-    expect_ok!(rt; cache.insert("circle", "black"));
-    expect_eq!(rt; cache.get(&"square").copied(), Some("blue"));
-    expect_eq!(rt; cache.get(&"circle").copied(), Some("black"));
-    expect_eq!(rt; cache.get(&"triangle").copied(), None);
+    let row = [
+        (Ask::Insert("square", "blue"), Said::Done),
+        (Ask::Insert("circle", "black"), Said::Done),
+        (Ask::Get("square"), Said::Value("blue")),
+        (Ask::Get("circle"), Said::Value("black")),
+        (Ask::Get("triangle"), Said::Nothing),
+    ];
+    answers_of_new(&rt, rt.alloc(), 5, &row);
 }
 
 #[test]
 fn the_counts_and_the_clone_tell_what_is_there(rt: HostRuntime) {
     let mut cache: Cache<u64, u64> = expect_ok!(rt; Cache::new(rt.alloc(), 5));
-    expect!(rt; cache.is_empty());
-    expect_ok!(rt; cache.insert(1, 10));
-    expect_ok!(rt; cache.insert(2, 20));
-    expect_eq!(rt; cache.get(&1).copied(), Some(10));
-    expect_eq!(rt; cache.get(&3).copied(), None);
-    expect!(rt; cache.contains_key(&2));
+    let row = [
+        (Ask::IsEmpty, Said::Is(true)),
+        (Ask::Insert(1, 10), Said::Done),
+        (Ask::Insert(2, 20), Said::Done),
+        (Ask::Get(1), Said::Value(10)),
+        (Ask::Get(3), Said::Nothing),
+        (Ask::Contains(2), Said::Is(true)),
+    ];
+    answers(&rt, &mut cache, &row);
     let mut copy = expect_ok!(rt; cache.try_clone());
-    expect_eq!(rt; copy.remove(&2), Some((2, 20)));
-    expect!(rt; !copy.contains_key(&2));
-    expect_eq!(rt; (cache.len(), cache.weight(), cache.capacity()), (2, 2, 5));
-    expect_eq!(rt; (copy.len(), copy.hits(), copy.misses()), (1, 1, 1));
+    let row = [
+        (Ask::Remove(2), Said::Pair(2, 20)),
+        (Ask::Contains(2), Said::Is(false)),
+        (Ask::Counts, Said::Counts([1, 1, 5, 1, 1])),
+    ];
+    answers(&rt, &mut copy, &row);
+    answers(
+        &rt,
+        &mut cache,
+        &[(Ask::Counts, Said::Counts([2, 2, 5, 1, 1]))],
+    );
     expect_eq!(rt; cache.shard().hot_target(), 4);
     let text =
         expect_ok!(rt; format!(in rt.alloc(); "{cache:?}, {:?}", DefaultLifecycle::<u64, u64>::new()));
@@ -54,14 +67,10 @@ fn walks_print_their_names_and_memory_is_told(rt: HostRuntime) {
 #[test]
 fn a_thousand_new_keys_leave_the_hot_items_alone(rt: HostRuntime) {
     let mut cache = expect_ok!(rt; Cache::new(rt.alloc(), 100));
+    inserts(&rt, &mut cache, 0..97);
+    inserts(&rt, &mut cache, 1000..2000);
     for key in 0..97 {
-        expect_ok!(rt; cache.insert(key, key));
-    }
-    for key in 1000..2000 {
-        expect_ok!(rt; cache.insert(key, key));
-    }
-    for key in 0..97u64 {
-        expect_eq!(rt; (key, cache.contains_key(&key)), (key, true));
+        answers(&rt, &mut cache, &[(Ask::Contains(key), Said::Is(true))]);
     }
     let shard = cache.shard();
     expect_eq!(rt;
@@ -74,45 +83,42 @@ fn a_thousand_new_keys_leave_the_hot_items_alone(rt: HostRuntime) {
     );
 }
 
-/// What stands under 4, or else what a loader gives.
-fn four(
-    cache: &mut Cache<u64, u64>,
-    given: Result<u64, Refusal>,
-) -> Result<u64, NotLoaded<Refusal>> {
-    let reference = cache.get_or_insert_with(&4, || given)?;
-    Ok(*reference)
-}
-
 #[test]
 fn a_loader_that_fails_leaves_the_key_to_the_next(rt: HostRuntime) {
-    let mut cache: Cache<u64, u64> = expect_ok!(rt; Cache::new(rt.alloc(), 100));
-    let failed = four(&mut cache, Err(Refusal::Finished));
-    expect_eq!(rt; failed, Err(NotLoaded::Failed(Refusal::Finished)));
-    expect_eq!(rt; four(&mut cache, Ok(4)), Ok(4));
-    expect_eq!(rt; (cache.hits(), cache.misses()), (0, 2));
+    let row = [
+        (Ask::Lend(4, Err(3)), Said::Failed(3)),
+        (Ask::Lend(4, Ok(4)), Said::Value(4)),
+        (Ask::Counts, Said::Counts([1, 1, 100, 0, 2])),
+    ];
+    answers_of_new(&rt, rt.alloc(), 100, &row);
 }
 
 #[test]
 fn gets_are_reads_and_a_peek_is_none(rt: HostRuntime) {
-    let mut cache: Cache<u64, u64> = expect_ok!(rt; Cache::new(rt.alloc(), 100));
-    expect_ok!(rt; cache.insert(1, 10));
-    for _ in 0..3 {
-        expect_eq!(rt; cache.get(&1).copied(), Some(10));
-    }
-    expect_eq!(rt; cache.peek(&1).copied(), Some(10));
-    let reads = cache.item_stats(&1).map(|stats| stats.access_count);
-    expect_eq!(rt; reads, Some(3));
+    let row = [
+        (Ask::Insert(1, 10), Said::Done),
+        (Ask::Get(1), Said::Value(10)),
+        (Ask::Get(1), Said::Value(10)),
+        (Ask::Get(1), Said::Value(10)),
+        (Ask::Peek(1), Said::Value(10)),
+        (Ask::Reads(1), Said::Reads(3)),
+    ];
+    answers_of_new(&rt, rt.alloc(), 100, &row);
 }
 
 #[test]
 fn a_clone_of_a_cache_with_room_is_another_cache(rt: HostRuntime) {
     let mut cache: Cache<u64, u64> = expect_ok!(rt; Cache::new(rt.alloc(), 5));
-    expect_ok!(rt; cache.insert(1, 10));
-    expect_eq!(rt; cache.reserve(3), Ok(()));
+    let row = [
+        (Ask::Insert(1, 10), Said::Done),
+        (Ask::Reserve(3), Said::Done),
+    ];
+    answers(&rt, &mut cache, &row);
     let mut copy = expect_ok!(rt; cache.try_clone());
-    expect_eq!(rt; cache.insert(2, 20), Ok(()));
-    let in_the_copy = (copy.get(&1).copied(), copy.get(&2).copied());
-    expect_eq!(rt; (in_the_copy, cache.get(&2).copied()), ((Some(10), None), Some(20)));
+    answers(&rt, &mut cache, &[(Ask::Insert(2, 20), Said::Done)]);
+    let row = [(Ask::Get(1), Said::Value(10)), (Ask::Get(2), Said::Nothing)];
+    answers(&rt, &mut copy, &row);
+    answers(&rt, &mut cache, &[(Ask::Get(2), Said::Value(20))]);
 }
 
 /// A cache whose hooks count their calls, and whose growths can be refused.
@@ -140,12 +146,18 @@ fn a_refused_first_growth_changes_nothing(rt: HostRuntime) {
     expect_eq!(rt; refused, Err((1, 1, Refusal::Memory)));
     expect_eq!(rt; (cache.len(), told), (0, Told::default()));
     ration.allow(12);
-    expect_eq!(rt; cache.insert(1, 1), Ok(()));
-    expect_eq!(rt; cache.peek(&1).copied(), Some(1));
+    let row = [
+        (Ask::Insert(1, 1), Said::Done),
+        (Ask::Peek(1), Said::Value(1)),
+    ];
+    answers(&rt, &mut cache, &row);
     // With no memory, what is there can be written over.
     ration.allow(0);
-    expect_eq!(rt; cache.insert(1, 2), Ok(()));
-    expect_eq!(rt; cache.remove(&1), Some((1, 2)));
+    let row = [
+        (Ask::Insert(1, 2), Said::Done),
+        (Ask::Remove(1), Said::Pair(1, 2)),
+    ];
+    answers(&rt, &mut cache, &row);
 }
 
 #[test]

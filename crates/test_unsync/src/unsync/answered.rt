@@ -1,13 +1,14 @@
 //! Calls that spare their caller a step: pairs are put, walked in a loop, and loaded with an answer.
+use crate::asked::{Ask, Said, answers, answers_of_new};
 use quick_cache_unsync::{Cache, LoadError, NotLoaded, Refusal};
 use std::io;
-use test_tools::{expect, expect_eq, expect_ok};
+use test_tools::{expect_eq, expect_ok};
 
 #[test]
 fn pairs_that_are_put_are_met_in_a_loop(rt: HostRuntime) {
     let mut cache: Cache<u64, u64> = expect_ok!(rt; Cache::new(rt.alloc(), 10));
     for key in 0..5 {
-        expect!(rt; cache.put(key, key * 2).is_ok());
+        answers(&rt, &mut cache, &[(Ask::Put(key, key * 2), Said::Done)]);
     }
     let mut sum = 0u64;
     for (key, value) in &cache {
@@ -18,17 +19,17 @@ fn pairs_that_are_put_are_met_in_a_loop(rt: HostRuntime) {
 
 #[test]
 fn a_load_answers_its_value_kept_or_not(rt: HostRuntime) {
-    for items in [0, 10] {
-        let mut cache: Cache<u64, u64> = expect_ok!(rt; Cache::new(rt.alloc(), items));
-        for _ in 0..2 {
-            let loaded: Result<u64, LoadError<u8>> = cache.get_or_load(&1, || Ok(7));
-            expect_eq!(rt; loaded, Ok(7));
-        }
-        let failed: Result<u64, LoadError<u8>> = cache.get_or_load(&2, || Err(3));
-        expect_eq!(rt; failed, Err(LoadError::Failed(3)));
-        let kept = if items == 0 { 0 } else { 1 };
-        expect_eq!(rt; cache.len(), kept);
-        expect_eq!(rt; (cache.hits(), cache.misses()), (kept as u64, 3 - kept as u64));
+    for (items, kept) in [(0, 0), (10, 1)] {
+        let row = [
+            (Ask::Load(1, Ok(7)), Said::Value(7)),
+            (Ask::Load(1, Ok(7)), Said::Value(7)),
+            (Ask::Load(2, Err(3)), Said::Failed(3)),
+            (
+                Ask::Counts,
+                Said::Counts([kept, kept, items, kept, 3 - kept]),
+            ),
+        ];
+        answers_of_new(&rt, rt.alloc(), items as usize, &row);
     }
 }
 
