@@ -1,6 +1,6 @@
 //! Rows of calls of a cache, each with what it is to answer.
 use quick_cache_base::{Lifecycle, Refusal, Weighter};
-use quick_cache_unsync::{Cache, LoadError, NotLoaded, set};
+use quick_cache_unsync::{Cache, set};
 use std::alloc::{Allocator, Global};
 use std::fmt::Debug;
 use std::hash::{BuildHasher, Hash};
@@ -12,7 +12,6 @@ use test_tools::{expect_eq, expect_ok};
 #[derive(Clone, Copy)]
 pub(crate) enum Ask<K, V> {
     Insert(K, V),
-    Put(K, V),
     Get(K),
     Peek(K),
     Contains(K),
@@ -21,12 +20,6 @@ pub(crate) enum Ask<K, V> {
     /// Writes a value through a reference, and tells whether there was an item.
     Set(K, V),
     Remove(K),
-    /// Lends what stands there, or what a loader gives that fails with a number.
-    Lend(K, Result<V, u64>),
-    /// Answers the same.
-    Load(K, Result<V, u64>),
-    Reserve(usize),
-    IsEmpty,
     Weight,
     /// Tells the number of items, their weight, the capacity, the hits and the misses.
     Counts,
@@ -40,12 +33,8 @@ pub(crate) enum Said<K, V> {
     Value(V),
     Pair(K, V),
     Is(bool),
-    Reads(u64),
-    Weight(u64),
+    Count(u64),
     Counts([u64; 5]),
-    /// The loader failed with that number.
-    Failed(u64),
-    NotKept,
     Refused(Refusal),
 }
 
@@ -57,72 +46,6 @@ fn found<K, V>(value: Option<V>) -> Said<K, V> {
     }
 }
 
-/// What a call did that answers nothing.
-fn done<K, V>(answer: Result<(), Refusal>) -> Said<K, V> {
-    match answer {
-        Ok(()) => Said::Done,
-        Err(refusal) => Said::Refused(refusal),
-    }
-}
-
-/// What a load lent.
-fn lent<
-    K: Eq + Hash + Copy,
-    V: Copy,
-    We: Weighter<K, V>,
-    B: BuildHasher,
-    L: Lifecycle<K, V>,
-    A: Allocator,
->(cache: &mut Cache<K, V, We, B, L, A>, key: K, given: Result<V, u64>) -> Said<K, V> {
-    match cache.get_or_insert_with(&key, || given) {
-        Ok(value) => Said::Value(*value),
-        Err(NotLoaded::NotKept) => Said::NotKept,
-        Err(NotLoaded::Failed(number)) => Said::Failed(number),
-        Err(NotLoaded::Refused(refusal)) => Said::Refused(refusal),
-    }
-}
-
-/// What a load answered.
-fn loaded<
-    K: Eq + Hash + Copy,
-    V: Copy,
-    We: Weighter<K, V>,
-    B: BuildHasher,
-    L: Lifecycle<K, V>,
-    A: Allocator,
->(cache: &mut Cache<K, V, We, B, L, A>, key: K, given: Result<V, u64>) -> Said<K, V> {
-    match cache.get_or_load(&key, || given) {
-        Ok(value) => Said::Value(value),
-        Err(LoadError::Failed(number)) => Said::Failed(number),
-        Err(LoadError::Refused(refusal)) => Said::Refused(refusal),
-    }
-}
-
-/// Makes a call that looks.
-fn look<K: Eq + Hash + Copy, V: Copy, We, B: BuildHasher, L, A: Allocator>(
-    cache: &mut Cache<K, V, We, B, L, A>,
-    ask: &Ask<K, V>,
-) -> Said<K, V> {
-    match *ask {
-        Ask::Get(key) => found(cache.get(&key).copied()),
-        Ask::Peek(key) => found(cache.peek(&key).copied()),
-        Ask::Contains(key) => Said::Is(cache.contains_key(&key)),
-        Ask::Reads(key) => match cache.item_stats(&key) {
-            Some(stats) => Said::Reads(stats.access_count),
-            None => Said::Nothing,
-        },
-        Ask::IsEmpty => Said::Is(cache.is_empty()),
-        Ask::Weight => Said::Weight(cache.weight()),
-        _ => Said::Counts([
-            cache.len() as u64,
-            cache.weight(),
-            cache.capacity(),
-            cache.hits(),
-            cache.misses(),
-        ]),
-    }
-}
-
 /// Makes a call.
 fn call<
     K: Eq + Hash + Copy,
@@ -131,19 +54,32 @@ fn call<
     B: BuildHasher,
     L: Lifecycle<K, V>,
     A: Allocator,
->(cache: &mut Cache<K, V, We, B, L, A>, ask: &Ask<K, V>) -> Said<K, V> {
-    match *ask {
-        Ask::Insert(key, value) => done(cache.insert(key, value).map_err(|back| back.2)),
-        Ask::Put(key, value) => done(cache.put(key, value)),
+>(cache: &mut Cache<K, V, We, B, L, A>, ask: Ask<K, V>) -> Said<K, V> {
+    match ask {
+        Ask::Insert(key, value) => match cache.insert(key, value) {
+            Ok(()) => Said::Done,
+            Err((_, _, refusal)) => Said::Refused(refusal),
+        },
+        Ask::Get(key) => found(cache.get(&key).copied()),
+        Ask::Peek(key) => found(cache.peek(&key).copied()),
+        Ask::Contains(key) => Said::Is(cache.contains_key(&key)),
+        Ask::Reads(key) => match cache.item_stats(&key) {
+            Some(stats) => Said::Count(stats.access_count),
+            None => Said::Nothing,
+        },
         Ask::Set(key, value) => Said::Is(set(cache, &key, value)),
         Ask::Remove(key) => match cache.remove(&key) {
             Some((key, value)) => Said::Pair(key, value),
             None => Said::Nothing,
         },
-        Ask::Lend(key, given) => lent(cache, key, given),
-        Ask::Load(key, given) => loaded(cache, key, given),
-        Ask::Reserve(additional) => done(cache.reserve(additional)),
-        _ => look(cache, ask),
+        Ask::Weight => Said::Count(cache.weight()),
+        Ask::Counts => Said::Counts([
+            cache.len() as u64,
+            cache.weight(),
+            cache.capacity(),
+            cache.hits(),
+            cache.misses(),
+        ]),
     }
 }
 
@@ -157,7 +93,7 @@ pub(crate) fn answers<
     A: Allocator,
 >(rt: &impl Abort, cache: &mut Cache<K, V, We, B, L, A>, row: &[(Ask<K, V>, Said<K, V>)]) {
     for (at, (ask, said)) in row.iter().enumerate() {
-        expect_eq!(rt; (at, &call(cache, ask)), (at, said));
+        expect_eq!(rt; (at, call(cache, *ask)), (at, *said));
     }
 }
 

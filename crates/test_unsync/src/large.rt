@@ -5,7 +5,8 @@ ghost use Rattle.quick_cache_runs.specs.Asked.{IfAsks};
 
 use crate::Predicate;
 use crate::asked::{Ask, Said, answers};
-use quick_cache_runs::{Call, Reply, run};
+use crate::runs::replies_to;
+use quick_cache_runs::{Call, Reply};
 use quick_cache_unsync::Cache;
 use std::alloc::{AllocError, Allocator, Global};
 use std::process::Abort;
@@ -18,11 +19,8 @@ const MANY: u64 = 70000;
 fn doubles(rt: &impl Abort, alloc: Global, count: u64) -> Cache<u64, u64> {
     let mut cache = expect_ok!(rt; Cache::new(alloc, count as usize));
     for key in 0..count {
-        answers(
-            rt,
-            &mut cache,
-            &[(Ask::Insert(key, key.saturating_mul(2)), Said::Done)],
-        );
+        let row = [(Ask::Insert(key, key.saturating_mul(2)), Said::Done)];
+        answers(rt, &mut cache, &row);
     }
     cache
 }
@@ -30,11 +28,8 @@ fn doubles(rt: &impl Abort, alloc: Global, count: u64) -> Cache<u64, u64> {
 #[test]
 fn ample_memory_is_never_refused(rt: HostRuntime) {
     let mut cache = doubles(&rt, rt.alloc(), MANY);
-    answers(
-        &rt,
-        &mut cache,
-        &[(Ask::Counts, Said::Counts([MANY, MANY, MANY, 0, 0]))],
-    );
+    let row = [(Ask::Counts, Said::Counts([MANY, MANY, MANY, 0, 0]))];
+    answers(&rt, &mut cache, &row);
     for key in 0..MANY {
         let double = key.saturating_mul(2);
         let row = [
@@ -44,11 +39,8 @@ fn ample_memory_is_never_refused(rt: HostRuntime) {
         ];
         answers(&rt, &mut cache, &row);
     }
-    answers(
-        &rt,
-        &mut cache,
-        &[(Ask::Counts, Said::Counts([0, 0, MANY, MANY, 0]))],
-    );
+    let row = [(Ask::Counts, Said::Counts([0, 0, MANY, MANY, 0]))];
+    answers(&rt, &mut cache, &row);
 }
 
 #[test]
@@ -99,9 +91,7 @@ fn is_reply_at(reply: &Reply<u64, u64>, at: u64) -> bool {
 fn run_by_threes(rt: &impl Abort, alloc: Global, count: u64) {
     let mut cache: Cache<u64, u64> = expect_ok!(rt; Cache::new(alloc, 3));
     let calls = expect_ok!(rt; threes(alloc, count));
-    let Ok(replies) = run(alloc, &mut cache, calls, &mut ()) else {
-        panic!(rt; "there is memory");
-    };
+    let replies = replies_to(rt, alloc, &mut cache, calls);
     expect_eq!(rt; replies.len() as u64, count);
     for (at, reply) in replies.iter().enumerate() {
         expect_eq!(rt; (at, is_reply_at(reply, at as u64)), (at, true));
@@ -120,9 +110,7 @@ fn a_list_of_replies_asks_for_memory_once(rt: HostRuntime) {
     let mut cache: Cache<u64, u64> = expect_ok!(rt; Cache::new(rt.alloc(), 3));
     let calls = expect_ok!(rt; threes(&ration, MANY));
     ration.allow(1);
-    let Ok(replies) = run(&ration, &mut cache, calls, &mut ()) else {
-        panic!(rt; "there is room for the replies");
-    };
+    let replies = replies_to(&rt, &ration, &mut cache, calls);
     expect_eq!(rt; (replies.len() as u64, ration.left()), (MANY, 0));
 }
 
@@ -150,9 +138,7 @@ fn a_walk_and_a_drain_give_seventy_thousand_pairs(rt: HostRuntime) {
         Call::Drain,
         Call::Iter,
     ]);
-    let Ok(replies) = run(alloc, &mut cache, calls, &mut ()) else {
-        panic!(rt; "there is memory");
-    };
+    let replies = replies_to(&rt, alloc, &mut cache, calls);
     let wanted = [(MANY, 2449965000), (MANY, 2449965000), (0, 0)];
     for (reply, wanted) in replies.iter().zip(wanted) {
         expect_eq!(rt; doubles_in(reply), Some(wanted));

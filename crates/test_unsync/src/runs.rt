@@ -8,15 +8,28 @@ use crate::Predicate;
 use quick_cache_base::Refusal;
 use quick_cache_runs::{Call, Reply, run};
 use quick_cache_unsync::Cache;
-use std::alloc::Global;
+use std::alloc::{Allocator, Global};
 use std::process::Abort;
 use test_tools::{Rationed, expect, expect_eq, expect_ok};
+
+/// The replies to these calls, which one `run` makes.
+pub(crate) fn replies_to<F: Fn(&u64, &u64) -> bool + Drop, M: Allocator + Clone>(
+    rt: &impl Abort,
+    alloc: M,
+    cache: &mut Cache<u64, u64>,
+    calls: Vec<Call<u64, u64, F>, M>,
+) -> Vec<Reply<u64, u64, M>, M>
+    requires callable { All (IfAsks (λ asked. F.IsAlwaysCallable asked)) calls.items }
+{
+    let replies = run(alloc, cache, calls, &mut ()).ok();
+    replies.expect(rt, "there is memory")
+}
 
 /// A call of a list, with its reply.
 type Row<F> = (Call<u64, u64, F>, Reply<u64, u64>);
 
-/// Makes the calls of these rows by one `run`, and stops the test where a reply is another.
-fn replies<F: Fn(&u64, &u64) -> bool + Drop, const N: usize>(
+/// Makes the calls of these rows in turn, and stops the test where a reply is another.
+fn make<F: Fn(&u64, &u64) -> bool + Drop, const N: usize>(
     rt: &impl Abort,
     alloc: Global,
     cache: &mut Cache<u64, u64>,
@@ -29,9 +42,7 @@ fn replies<F: Fn(&u64, &u64) -> bool + Drop, const N: usize>(
         expect_ok!(rt; calls.push(call));
         expect_ok!(rt; wanted.push(reply));
     }
-    let replies = run(alloc, cache, calls, &mut ())
-        .ok()
-        .expect(rt, "there is memory");
+    let replies = replies_to(rt, alloc, cache, calls);
     expect_eq!(rt; replies.as_slice(), wanted.as_slice());
 }
 
@@ -46,7 +57,7 @@ fn a_list_of_calls_is_made_in_order(rt: HostRuntime) {
         (Call::Get(1), Reply::Value(None)),
         (Call::Remove(2), Reply::Pair(Some((2, 20)))),
     ];
-    replies(&rt, rt.alloc(), &mut cache, rows);
+    make(&rt, rt.alloc(), &mut cache, rows);
 }
 
 /// The reply of so many items in a cache of this capacity, which had six hits and eight misses.
@@ -73,7 +84,7 @@ fn writes_and_loads(rt: &impl Abort, alloc: Global, cache: &mut Cache<u64, u64>)
         (Call::Contains(1), Reply::Flag(true)),
         (Call::Stats(1), Reply::Stats(Some(2))),
     ];
-    replies(rt, alloc, cache, rows);
+    make(rt, alloc, cache, rows);
     let rows: [Row<Predicate>; 6] = [
         (Call::Load(2, Some(20)), Reply::Loaded(true)),
         (Call::Load(3, None), Reply::LoadFailed),
@@ -82,7 +93,7 @@ fn writes_and_loads(rt: &impl Abort, alloc: Global, cache: &mut Cache<u64, u64>)
         (Call::LoadMut(3, None, 32), Reply::Found(31)),
         (Call::LoadMut(4, None, 40), Reply::LoadFailed),
     ];
-    replies(rt, alloc, cache, rows);
+    make(rt, alloc, cache, rows);
     let rows: [Row<Predicate>; 7] = [
         (Call::Guarded(4, None), Reply::Dropped),
         (Call::Guarded(4, Some(40)), Reply::Filled),
@@ -92,7 +103,7 @@ fn writes_and_loads(rt: &impl Abort, alloc: Global, cache: &mut Cache<u64, u64>)
         (Call::GuardedMut(6, None, 60), Reply::Dropped),
         (Call::Counts, counts(5, 5)),
     ];
-    replies(rt, alloc, cache, rows);
+    make(rt, alloc, cache, rows);
 }
 
 #[test]
@@ -111,7 +122,7 @@ fn each_kind_of_call_has_its_reply(rt: HostRuntime) {
         ),
         (Call::Remove(4), Reply::Pair(None)),
     ];
-    replies(&rt, alloc, &mut cache, rows);
+    make(&rt, alloc, &mut cache, rows);
     let rows: [Row<Predicate>; 5] = [
         (Call::SetCapacity(7), Reply::Done),
         (Call::Reserve(2), Reply::Done),
@@ -122,7 +133,7 @@ fn each_kind_of_call_has_its_reply(rt: HostRuntime) {
         (Call::Clear, Reply::Done),
         (Call::Counts, counts(0, 7)),
     ];
-    replies(&rt, alloc, &mut cache, rows);
+    make(&rt, alloc, &mut cache, rows);
 }
 
 #[test]
@@ -159,9 +170,7 @@ fn a_list_of_a_reply_may_be_refused(rt: HostRuntime) {
         Call::Get(1),
     ]);
     ration.allow(1);
-    let replies = run(&ration, &mut cache, calls, &mut ())
-        .ok()
-        .expect(&rt, "there is room");
+    let replies = replies_to(&rt, &ration, &mut cache, calls);
     expect!(rt;
         matches!(
             replies.as_slice(),

@@ -1,11 +1,11 @@
 //! The cache for one thread: first examples, texts, a scan, and refused growths.
 mod answered;
-mod great;
+pub(crate) mod great;
 mod memory;
 
 use crate::asked::{Ask, Said, answers, answers_of_new, inserts};
 use quick_cache_base::{DefaultHashBuilder, Refusal, UnitWeighter};
-use quick_cache_unsync::{Cache, DefaultLifecycle};
+use quick_cache_unsync::{Cache, DefaultLifecycle, NotLoaded};
 use std::alloc::Global;
 use test_parts::counting::{Counting, Told};
 use test_tools::{Rationed, expect, expect_eq, expect_ok};
@@ -25,8 +25,8 @@ fn what_was_inserted_is_found(rt: HostRuntime) {
 #[test]
 fn the_counts_and_the_clone_tell_what_is_there(rt: HostRuntime) {
     let mut cache: Cache<u64, u64> = expect_ok!(rt; Cache::new(rt.alloc(), 5));
+    expect!(rt; cache.is_empty());
     let row = [
-        (Ask::IsEmpty, Said::Is(true)),
         (Ask::Insert(1, 10), Said::Done),
         (Ask::Insert(2, 20), Said::Done),
         (Ask::Get(1), Said::Value(10)),
@@ -41,11 +41,8 @@ fn the_counts_and_the_clone_tell_what_is_there(rt: HostRuntime) {
         (Ask::Counts, Said::Counts([1, 1, 5, 1, 1])),
     ];
     answers(&rt, &mut copy, &row);
-    answers(
-        &rt,
-        &mut cache,
-        &[(Ask::Counts, Said::Counts([2, 2, 5, 1, 1]))],
-    );
+    let row = [(Ask::Counts, Said::Counts([2, 2, 5, 1, 1]))];
+    answers(&rt, &mut cache, &row);
     expect_eq!(rt; cache.shard().hot_target(), 4);
     let text =
         expect_ok!(rt; format!(in rt.alloc(); "{cache:?}, {:?}", DefaultLifecycle::<u64, u64>::new()));
@@ -55,13 +52,13 @@ fn the_counts_and_the_clone_tell_what_is_there(rt: HostRuntime) {
 #[test]
 fn walks_print_their_names_and_memory_is_told(rt: HostRuntime) {
     let mut cache: Cache<u64, u64> = expect_ok!(rt; Cache::new(rt.alloc(), 100));
-    expect_eq!(rt; cache.memory_used().total(), 0);
-    expect_ok!(rt; cache.insert(1, 10));
-    expect!(rt; cache.memory_used().entries > 0 && cache.memory_used().map > 0);
-    let text = expect_ok!(rt; format!(in rt.alloc(); "{:?}", cache.iter()));
-    expect_eq!(rt; text.as_str(), "Iter { .. }");
-    let text = expect_ok!(rt; format!(in rt.alloc(); "{:?}", cache.drain()));
-    expect_eq!(rt; text.as_str(), "Drain { .. }");
+    let before = cache.memory_used().total();
+    answers(&rt, &mut cache, &[(Ask::Insert(1, 10), Said::Done)]);
+    let used = cache.memory_used();
+    expect_eq!(rt; (before, used.entries > 0, used.map > 0), (0, true, true));
+    let iter = expect_ok!(rt; format!(in rt.alloc(); "{:?}", cache.iter()));
+    let drain = expect_ok!(rt; format!(in rt.alloc(); "{:?}", cache.drain()));
+    expect_eq!(rt; [iter.as_str(), drain.as_str()], ["Iter { .. }", "Drain { .. }"]);
 }
 
 #[test]
@@ -83,14 +80,22 @@ fn a_thousand_new_keys_leave_the_hot_items_alone(rt: HostRuntime) {
     );
 }
 
+/// What stands under 4, or else what a loader gives.
+fn four(
+    cache: &mut Cache<u64, u64>,
+    given: Result<u64, Refusal>,
+) -> Result<u64, NotLoaded<Refusal>> {
+    let reference = cache.get_or_insert_with(&4, || given)?;
+    Ok(*reference)
+}
+
 #[test]
 fn a_loader_that_fails_leaves_the_key_to_the_next(rt: HostRuntime) {
-    let row = [
-        (Ask::Lend(4, Err(3)), Said::Failed(3)),
-        (Ask::Lend(4, Ok(4)), Said::Value(4)),
-        (Ask::Counts, Said::Counts([1, 1, 100, 0, 2])),
-    ];
-    answers_of_new(&rt, rt.alloc(), 100, &row);
+    let mut cache: Cache<u64, u64> = expect_ok!(rt; Cache::new(rt.alloc(), 100));
+    let loaded = [Err(Refusal::Finished), Ok(4)].map(|given| four(&mut cache, given));
+    expect_eq!(rt; loaded, [Err(NotLoaded::Failed(Refusal::Finished)), Ok(4)]);
+    let row = [(Ask::Counts, Said::Counts([1, 1, 100, 0, 2]))];
+    answers(&rt, &mut cache, &row);
 }
 
 #[test]
@@ -101,7 +106,7 @@ fn gets_are_reads_and_a_peek_is_none(rt: HostRuntime) {
         (Ask::Get(1), Said::Value(10)),
         (Ask::Get(1), Said::Value(10)),
         (Ask::Peek(1), Said::Value(10)),
-        (Ask::Reads(1), Said::Reads(3)),
+        (Ask::Reads(1), Said::Count(3)),
     ];
     answers_of_new(&rt, rt.alloc(), 100, &row);
 }
@@ -109,11 +114,8 @@ fn gets_are_reads_and_a_peek_is_none(rt: HostRuntime) {
 #[test]
 fn a_clone_of_a_cache_with_room_is_another_cache(rt: HostRuntime) {
     let mut cache: Cache<u64, u64> = expect_ok!(rt; Cache::new(rt.alloc(), 5));
-    let row = [
-        (Ask::Insert(1, 10), Said::Done),
-        (Ask::Reserve(3), Said::Done),
-    ];
-    answers(&rt, &mut cache, &row);
+    answers(&rt, &mut cache, &[(Ask::Insert(1, 10), Said::Done)]);
+    expect_eq!(rt; cache.reserve(3), Ok(()));
     let mut copy = expect_ok!(rt; cache.try_clone());
     answers(&rt, &mut cache, &[(Ask::Insert(2, 20), Said::Done)]);
     let row = [(Ask::Get(1), Said::Value(10)), (Ask::Get(2), Said::Nothing)];

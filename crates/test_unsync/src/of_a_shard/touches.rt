@@ -1,6 +1,6 @@
 //! Touches that readers left at an item become marks of it, each one.
-use crate::of_a_shard::rows::{Tested, empty, put, replaced};
-use quick_cache_shard::Touches;
+use crate::of_a_shard::rows::{Tested, counts, empty, put};
+use quick_cache_shard::{InsertStrategy, Touches};
 use std::alloc::Global;
 use std::process::Abort;
 use test_parts::counting::Told;
@@ -12,14 +12,16 @@ use test_tools::{expect, expect_eq, expect_ok};
 fn check_mark<T: Touches>(rt: &impl Abort, alloc: Global, mark: u8) {
     let mut shard: Tested<u64, u64, T> = expect_ok!(rt; empty(alloc, 4));
     let mut told = Told::default();
-    expect!(rt; put(&mut shard, &mut told, 1, 10));
-    expect!(rt; shows(shard.iter_hot(), &[(1, 0)]));
+    put(rt, &mut shard, &mut told, &[(1, 10)]);
+    let is_unmarked = shows(shard.iter_hot(), &[(1, 0)]);
     // They are taken by the first, so they count once.
-    for value in [11, 12] {
-        expect_eq!(rt; replaced(&mut shard, &mut told, 1, value, true), Ok(()));
-        let is_marked = shows(shard.iter_hot(), &[(1, mark)]);
-        expect_eq!(rt; (mark, value, is_marked), (mark, value, true));
-    }
+    let soft = InsertStrategy::Replace { soft: true };
+    let is_marked = [11, 12].map(|value| {
+        let hash = shard.hash(&1u64);
+        let is_written = shard.insert(&mut told, hash, 1, value, soft).is_ok();
+        is_written && shows(shard.iter_hot(), &[(1, mark)])
+    });
+    expect_eq!(rt; (mark, is_unmarked, is_marked), (mark, true, [true, true]));
 }
 
 #[test]
@@ -34,9 +36,7 @@ fn an_overwrite_takes_touches_in_up_to_two(rt: HostRuntime) {
 fn touched_items_outlive_an_eviction(rt: HostRuntime) {
     let mut shard: Tested<u64, u64, Touched<1>> = expect_ok!(rt; empty(rt.alloc(), 2));
     let mut told = Told::default();
-    for key in [1, 2, 3] {
-        expect!(rt; put(&mut shard, &mut told, key, key));
-    }
+    put(&rt, &mut shard, &mut told, &[(1, 1), (2, 2), (3, 3)]);
     // The cold item 2 was touched, so it is promoted. Then the hot item 1, touched too, outlives
     // it.
     expect!(rt; shows(shard.iter_hot(), &[(1, 0)]));
@@ -48,15 +48,16 @@ fn touched_items_outlive_an_eviction(rt: HostRuntime) {
 #[test]
 fn a_shared_look_up_finds_an_item_and_leaves_its_mark(rt: HostRuntime) {
     let mut shard: Tested<u64, u64> = expect_ok!(rt; empty(rt.alloc(), 4));
-    let mut told = Told::default();
-    expect!(rt; put(&mut shard, &mut told, 1, 10));
-    let hash = shard.hash(&1u64);
-    expect_eq!(rt; shard.get_shared(hash, &1).copied(), Some(10));
-    expect_eq!(rt; shard.get_clone(hash, &1), Ok(Some(10)));
-    let hash = shard.hash(&2u64);
-    expect_eq!(rt; shard.get_shared(hash, &2).copied(), None);
-    expect_eq!(rt; shard.get_clone(hash, &2), Ok(None));
+    put(&rt, &mut shard, &mut Told::default(), &[(1, 10)]);
+    for (key, value) in [(1, Some(10)), (2, None)] {
+        let hash = shard.hash(&key);
+        let found = (
+            shard.get_shared(hash, &key).copied(),
+            shard.get_clone(hash, &key),
+        );
+        expect_eq!(rt; (key, found), (key, (value, Ok(value))));
+    }
     expect!(rt; shows(shard.iter_hot(), &[(1, 0)]));
     // Touches of one thread count nothing.
-    expect_eq!(rt; (shard.hits(), shard.misses()), (0, 0));
+    expect_eq!(rt; counts(&shard), [0, 0, 1]);
 }

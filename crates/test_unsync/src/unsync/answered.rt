@@ -1,5 +1,5 @@
 //! Calls that spare their caller a step: pairs are put, walked in a loop, and loaded with an answer.
-use crate::asked::{Ask, Said, answers, answers_of_new};
+use crate::asked::{Ask, Said, answers};
 use quick_cache_unsync::{Cache, LoadError, NotLoaded, Refusal};
 use std::io;
 use test_tools::{expect_eq, expect_ok};
@@ -8,7 +8,7 @@ use test_tools::{expect_eq, expect_ok};
 fn pairs_that_are_put_are_met_in_a_loop(rt: HostRuntime) {
     let mut cache: Cache<u64, u64> = expect_ok!(rt; Cache::new(rt.alloc(), 10));
     for key in 0..5 {
-        answers(&rt, &mut cache, &[(Ask::Put(key, key * 2), Said::Done)]);
+        expect_eq!(rt; cache.put(key, key * 2), Ok(()));
     }
     let mut sum = 0u64;
     for (key, value) in &cache {
@@ -20,16 +20,15 @@ fn pairs_that_are_put_are_met_in_a_loop(rt: HostRuntime) {
 #[test]
 fn a_load_answers_its_value_kept_or_not(rt: HostRuntime) {
     for (items, kept) in [(0, 0), (10, 1)] {
-        let row = [
-            (Ask::Load(1, Ok(7)), Said::Value(7)),
-            (Ask::Load(1, Ok(7)), Said::Value(7)),
-            (Ask::Load(2, Err(3)), Said::Failed(3)),
-            (
-                Ask::Counts,
-                Said::Counts([kept, kept, items, kept, 3 - kept]),
-            ),
-        ];
-        answers_of_new(&rt, rt.alloc(), items as usize, &row);
+        let mut cache: Cache<u64, u64> = expect_ok!(rt; Cache::new(rt.alloc(), items as usize));
+        let loaded = [(1, Ok(7)), (1, Ok(7)), (2, Err(3))].map(|(key, given)| cache.get_or_load(
+            &key,
+            || given,
+        ));
+        let wanted: [Result<u64, LoadError<u8>>; 3] = [Ok(7), Ok(7), Err(LoadError::Failed(3))];
+        expect_eq!(rt; loaded, wanted);
+        let counts = [kept, kept, items, kept, 3 - kept];
+        answers(&rt, &mut cache, &[(Ask::Counts, Said::Counts(counts))]);
     }
 }
 

@@ -1,13 +1,12 @@
 //! Great numbers, weights of an item and reads of one, and weights that change with a text.
-ghost use Rattle.std.specs.Prelude.{length};
-
 use crate::asked::{Ask, Said, answers, inserts};
+use quick_cache_listeners::ByLength;
 use quick_cache_unsync::{Cache, DefaultHashBuilder, DefaultLifecycle, Weighter};
 use test_tools::expect_ok;
 
 /// Weighs a number as itself.
 #[derive(Drop)]
-struct AsItself;
+pub(crate) struct AsItself;
 
 impl Weighter<u64, u64> for AsItself {
     ghost weight_of = { λ _ _ value. value };
@@ -24,7 +23,7 @@ fn seventy_thousand_gets_are_as_many_reads(rt: HostRuntime) {
     for _ in 0..70000 {
         cache.get(&1);
     }
-    let row = [(Ask::Reads(1), Said::Reads(70000))];
+    let row = [(Ask::Reads(1), Said::Count(70000))];
     answers(&rt, &mut cache, &row);
     let mut copy = expect_ok!(rt; cache.try_clone());
     answers(&rt, &mut copy, &row);
@@ -44,12 +43,12 @@ fn great_weights_are_kept_whole(rt: HostRuntime) {
     ] {
         let row = [
             (Ask::Insert(2, weight), Said::Done),
-            (Ask::Weight, Said::Weight(beside_one)),
+            (Ask::Weight, Said::Count(beside_one)),
             (Ask::Set(1, weight), Said::Is(true)),
-            (Ask::Weight, Said::Weight(twice)),
+            (Ask::Weight, Said::Count(twice)),
             (Ask::Insert(1, 1), Said::Done),
             (Ask::Remove(2), Said::Pair(2, weight)),
-            (Ask::Weight, Said::Weight(1)),
+            (Ask::Weight, Said::Count(1)),
         ];
         answers(&rt, &mut cache, &row);
     }
@@ -61,7 +60,7 @@ fn an_item_of_weight_0_outlives_a_hundred_that_weigh_more(rt: HostRuntime) {
         expect_ok!(rt; Cache::with_weighter(rt.alloc(), 100, 100, AsItself));
     let row = [
         (Ask::Insert(0, 0), Said::Done),
-        (Ask::Weight, Said::Weight(0)),
+        (Ask::Weight, Said::Count(0)),
     ];
     answers(&rt, &mut cache, &row);
     for number in 1..100 {
@@ -71,29 +70,17 @@ fn an_item_of_weight_0_outlives_a_hundred_that_weigh_more(rt: HostRuntime) {
     answers(&rt, &mut cache, &[(Ask::Get(0), Said::Value(0))]);
 }
 
-/// Weighs a text by its bytes.
-#[derive(Drop)]
-struct ByLength;
-
-impl Weighter<u64, &'static str> for ByLength {
-    ghost weight_of = { λ _ _ text. length text.now };
-
-    fn weight(&self, _key: &u64, text: &&'static str) -> u64 {
-        text.len() as u64
-    }
-}
-
 #[test]
 fn a_text_that_grows_and_goes_is_weighed_each_time(rt: HostRuntime) {
     let mut cache: Cache<u64, &'static str, ByLength> =
         expect_ok!(rt; Cache::with_weighter(rt.alloc(), 100, 100000, ByLength));
     let row = [
         (Ask::Insert(1, "1"), Said::Done),
-        (Ask::Weight, Said::Weight(1)),
+        (Ask::Weight, Said::Count(1)),
         (Ask::Set(1, "11"), Said::Is(true)),
-        (Ask::Weight, Said::Weight(2)),
+        (Ask::Weight, Said::Count(2)),
         (Ask::Set(1, ""), Said::Is(true)),
-        (Ask::Weight, Said::Weight(0)),
+        (Ask::Weight, Said::Count(0)),
         (Ask::Get(1), Said::Value("")),
         (Ask::Counts, Said::Counts([1, 0, 100000, 3, 0])),
     ];
