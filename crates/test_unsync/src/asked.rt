@@ -2,14 +2,13 @@
 use quick_cache_base::{Lifecycle, Refusal, Weighter};
 use quick_cache_unsync::{Cache, set};
 use std::alloc::{Allocator, Global};
-use std::fmt::Debug;
 use std::hash::{BuildHasher, Hash};
 use std::ops::Range;
 use std::process::Abort;
 use test_tools::{expect_eq, expect_ok};
 
 /// A call.
-#[derive(Clone, Copy)]
+#[derive(Drop)]
 pub(crate) enum Ask<K, V> {
     Insert(K, V),
     Get(K),
@@ -26,7 +25,7 @@ pub(crate) enum Ask<K, V> {
 }
 
 /// An answer.
-#[derive(Debug, Clone, Copy, PartialEq)]
+#[derive(PartialEq, Drop)]
 pub(crate) enum Said<K, V> {
     Done,
     Nothing,
@@ -54,8 +53,8 @@ fn call<
     B: BuildHasher,
     L: Lifecycle<K, V>,
     A: Allocator,
->(cache: &mut Cache<K, V, We, B, L, A>, ask: Ask<K, V>) -> Said<K, V> {
-    match ask {
+>(cache: &mut Cache<K, V, We, B, L, A>, ask: &Ask<K, V>) -> Said<K, V> {
+    match *ask {
         Ask::Insert(key, value) => match cache.insert(key, value) {
             Ok(()) => Said::Done,
             Err((_, _, refusal)) => Said::Refused(refusal),
@@ -85,20 +84,20 @@ fn call<
 
 /// Makes the calls of a row in turn, and stops the test at the first that answers something else.
 pub(crate) fn answers<
-    K: Eq + Hash + Copy + Debug,
-    V: Copy + PartialEq + Debug,
+    K: Eq + Hash + Copy,
+    V: Copy + PartialEq,
     We: Weighter<K, V>,
     B: BuildHasher,
     L: Lifecycle<K, V>,
     A: Allocator,
 >(rt: &impl Abort, cache: &mut Cache<K, V, We, B, L, A>, row: &[(Ask<K, V>, Said<K, V>)]) {
     for (at, (ask, said)) in row.iter().enumerate() {
-        expect_eq!(rt; (at, call(cache, *ask)), (at, *said));
+        expect_eq!(rt; (at, call(cache, ask) == *said), (at, true));
     }
 }
 
 /// Makes the calls of a row on a new cache for so many items.
-pub(crate) fn answers_of_new<K: Eq + Hash + Copy + Debug, V: Copy + PartialEq + Debug>(
+pub(crate) fn answers_of_new<K: Eq + Hash + Copy, V: Copy + PartialEq>(
     rt: &impl Abort,
     alloc: Global,
     items: usize,

@@ -19,8 +19,8 @@ const MANY: u64 = 70000;
 fn doubles(rt: &impl Abort, alloc: Global, count: u64) -> Cache<u64, u64> {
     let mut cache = expect_ok!(rt; Cache::new(alloc, count as usize));
     for key in 0..count {
-        let row = [(Ask::Insert(key, key.saturating_mul(2)), Said::Done)];
-        answers(rt, &mut cache, &row);
+        let row = &[(Ask::Insert(key, key.saturating_mul(2)), Said::Done)];
+        answers(rt, &mut cache, row);
     }
     cache
 }
@@ -28,19 +28,19 @@ fn doubles(rt: &impl Abort, alloc: Global, count: u64) -> Cache<u64, u64> {
 #[test]
 fn ample_memory_is_never_refused(rt: HostRuntime) {
     let mut cache = doubles(&rt, rt.alloc(), MANY);
-    let row = [(Ask::Counts, Said::Counts([MANY, MANY, MANY, 0, 0]))];
-    answers(&rt, &mut cache, &row);
+    let row = &[(Ask::Counts, Said::Counts([MANY, MANY, MANY, 0, 0]))];
+    answers(&rt, &mut cache, row);
     for key in 0..MANY {
         let double = key.saturating_mul(2);
-        let row = [
+        let row = &[
             (Ask::Get(key), Said::Value(double)),
             (Ask::Insert(key, double), Said::Done),
             (Ask::Remove(key), Said::Pair(key, double)),
         ];
-        answers(&rt, &mut cache, &row);
+        answers(&rt, &mut cache, row);
     }
-    let row = [(Ask::Counts, Said::Counts([0, 0, MANY, MANY, 0]))];
-    answers(&rt, &mut cache, &row);
+    let row = &[(Ask::Counts, Said::Counts([0, 0, MANY, MANY, 0]))];
+    answers(&rt, &mut cache, row);
 }
 
 #[test]

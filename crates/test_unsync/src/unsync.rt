@@ -6,43 +6,42 @@ mod memory;
 use crate::asked::{Ask, Said, answers, answers_of_new, inserts};
 use quick_cache_base::{DefaultHashBuilder, Refusal, UnitWeighter};
 use quick_cache_unsync::{Cache, DefaultLifecycle, NotLoaded};
-use std::alloc::Global;
 use test_parts::counting::{Counting, Told};
 use test_tools::{Rationed, expect, expect_eq, expect_ok};
 
 #[test]
 fn what_was_inserted_is_found(rt: HostRuntime) {
-    let row = [
+    let row = &[
         (Ask::Insert("square", "blue"), Said::Done),
         (Ask::Insert("circle", "black"), Said::Done),
         (Ask::Get("square"), Said::Value("blue")),
         (Ask::Get("circle"), Said::Value("black")),
         (Ask::Get("triangle"), Said::Nothing),
     ];
-    answers_of_new(&rt, rt.alloc(), 5, &row);
+    answers_of_new(&rt, rt.alloc(), 5, row);
 }
 
 #[test]
 fn the_counts_and_the_clone_tell_what_is_there(rt: HostRuntime) {
     let mut cache: Cache<u64, u64> = expect_ok!(rt; Cache::new(rt.alloc(), 5));
     expect!(rt; cache.is_empty());
-    let row = [
+    let row = &[
         (Ask::Insert(1, 10), Said::Done),
         (Ask::Insert(2, 20), Said::Done),
         (Ask::Get(1), Said::Value(10)),
         (Ask::Get(3), Said::Nothing),
         (Ask::Contains(2), Said::Is(true)),
     ];
-    answers(&rt, &mut cache, &row);
+    answers(&rt, &mut cache, row);
     let mut copy = expect_ok!(rt; cache.try_clone());
-    let row = [
+    let row = &[
         (Ask::Remove(2), Said::Pair(2, 20)),
         (Ask::Contains(2), Said::Is(false)),
         (Ask::Counts, Said::Counts([1, 1, 5, 1, 1])),
     ];
-    answers(&rt, &mut copy, &row);
-    let row = [(Ask::Counts, Said::Counts([2, 2, 5, 1, 1]))];
-    answers(&rt, &mut cache, &row);
+    answers(&rt, &mut copy, row);
+    let row = &[(Ask::Counts, Said::Counts([2, 2, 5, 1, 1]))];
+    answers(&rt, &mut cache, row);
     expect_eq!(rt; cache.shard().hot_target(), 4);
     let text =
         expect_ok!(rt; format!(in rt.alloc(); "{cache:?}, {:?}", DefaultLifecycle::<u64, u64>::new()));
@@ -94,13 +93,13 @@ fn a_loader_that_fails_leaves_the_key_to_the_next(rt: HostRuntime) {
     let mut cache: Cache<u64, u64> = expect_ok!(rt; Cache::new(rt.alloc(), 100));
     let loaded = [Err(Refusal::Finished), Ok(4)].map(|given| four(&mut cache, given));
     expect_eq!(rt; loaded, [Err(NotLoaded::Failed(Refusal::Finished)), Ok(4)]);
-    let row = [(Ask::Counts, Said::Counts([1, 1, 100, 0, 2]))];
-    answers(&rt, &mut cache, &row);
+    let row = &[(Ask::Counts, Said::Counts([1, 1, 100, 0, 2]))];
+    answers(&rt, &mut cache, row);
 }
 
 #[test]
 fn gets_are_reads_and_a_peek_is_none(rt: HostRuntime) {
-    let row = [
+    let row = &[
         (Ask::Insert(1, 10), Said::Done),
         (Ask::Get(1), Said::Value(10)),
         (Ask::Get(1), Said::Value(10)),
@@ -108,7 +107,7 @@ fn gets_are_reads_and_a_peek_is_none(rt: HostRuntime) {
         (Ask::Peek(1), Said::Value(10)),
         (Ask::Reads(1), Said::Count(3)),
     ];
-    answers_of_new(&rt, rt.alloc(), 100, &row);
+    answers_of_new(&rt, rt.alloc(), 100, row);
 }
 
 #[test]
@@ -118,60 +117,42 @@ fn a_clone_of_a_cache_with_room_is_another_cache(rt: HostRuntime) {
     expect_eq!(rt; cache.reserve(3), Ok(()));
     let mut copy = expect_ok!(rt; cache.try_clone());
     answers(&rt, &mut cache, &[(Ask::Insert(2, 20), Said::Done)]);
-    let row = [(Ask::Get(1), Said::Value(10)), (Ask::Get(2), Said::Nothing)];
-    answers(&rt, &mut copy, &row);
+    let row = &[(Ask::Get(1), Said::Value(10)), (Ask::Get(2), Said::Nothing)];
+    answers(&rt, &mut copy, row);
     answers(&rt, &mut cache, &[(Ask::Get(2), Said::Value(20))]);
-}
-
-/// A cache whose hooks count their calls, and whose growths can be refused.
-type WatchedCache<'a> = Cache<
-    u64,
-    u64,
-    UnitWeighter,
-    DefaultHashBuilder,
-    Counting,
-    &'a Rationed<Global>,
->;
-
-/// An empty one, of so many items of weight 1.
-fn watched<'a>(ration: &'a Rationed<Global>, items: usize) -> Result<WatchedCache<'a>, Refusal> {
-    let (weigher, builder) = (UnitWeighter, DefaultHashBuilder::new());
-    Cache::with(ration, items, items as u64, weigher, builder, Counting)
 }
 
 #[test]
 fn a_refused_first_growth_changes_nothing(rt: HostRuntime) {
     let ration = Rationed::new(rt.alloc(), 0);
-    let mut cache = expect_ok!(rt; watched(&ration, 5));
+    let builder = DefaultHashBuilder::new();
+    let mut cache = expect_ok!(rt; Cache::with(&ration, 5, 5, UnitWeighter, builder, Counting));
     let mut told = Told::default();
     let refused = cache.insert_with_lifecycle(1, 1, &mut told);
-    expect_eq!(rt; refused, Err((1, 1, Refusal::Memory)));
-    expect_eq!(rt; (cache.len(), told), (0, Told::default()));
+    let wanted = (Err((1, 1, Refusal::Memory)), 0, Told::default());
+    expect_eq!(rt; (refused, cache.len(), told), wanted);
     ration.allow(12);
-    let row = [
+    let row = &[
         (Ask::Insert(1, 1), Said::Done),
         (Ask::Peek(1), Said::Value(1)),
     ];
-    answers(&rt, &mut cache, &row);
+    answers(&rt, &mut cache, row);
     // With no memory, what is there can be written over.
     ration.allow(0);
-    let row = [
+    let row = &[
         (Ask::Insert(1, 2), Said::Done),
         (Ask::Remove(1), Said::Pair(1, 2)),
     ];
-    answers(&rt, &mut cache, &row);
+    answers(&rt, &mut cache, row);
 }
 
 #[test]
 fn a_cache_for_nothing_turns_each_pair_away(rt: HostRuntime) {
     let ration = Rationed::new(rt.alloc(), 12);
-    let mut cache = expect_ok!(rt; watched(&ration, 0));
+    let builder = DefaultHashBuilder::new();
+    let mut cache = expect_ok!(rt; Cache::with(&ration, 0, 0, UnitWeighter, builder, Counting));
     let mut told = Told::default();
     expect_eq!(rt; cache.insert_with_lifecycle(1, 10, &mut told), Ok(()));
-    let turned_away = Told {
-        before: 1,
-        hot: 0,
-        cold: 1,
-    };
-    expect_eq!(rt; (cache.get(&1).copied(), told), (None, turned_away));
+    expect_eq!(rt; [told.before, told.hot, told.cold], [1, 0, 1]);
+    answers(&rt, &mut cache, &[(Ask::Get(1), Said::Nothing)]);
 }

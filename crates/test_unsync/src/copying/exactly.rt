@@ -117,17 +117,17 @@ fn a_run_shows_the_numbers_that_it_finds(rt: HostRuntime) {
 #[test]
 fn a_copy_of_numbers_counts_what_was_counted(rt: HostRuntime) {
     let mut cache: Cache<u64, u64> = expect_ok!(rt; Cache::new(rt.alloc(), 5));
-    let row = [
+    let row = &[
         (Ask::Insert(1, 10), Said::Done),
         (Ask::Get(1), Said::Value(10)),
     ];
-    answers(&rt, &mut cache, &row);
+    answers(&rt, &mut cache, row);
     let mut copy = expect_ok!(rt; copy_numbers(&cache));
-    let row = [
+    let row = &[
         (Ask::Counts, Said::Counts([1, 1, 5, 1, 0])),
         (Ask::Peek(1), Said::Value(10)),
     ];
-    answers(&rt, &mut copy, &row);
+    answers(&rt, &mut copy, row);
 }
 
 #[test]

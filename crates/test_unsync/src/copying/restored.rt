@@ -138,13 +138,13 @@ fn a_cache_above_its_capacity_stands_again(rt: HostRuntime) {
 fn the_next_write_makes_room_for_what_came_back_too_heavy(rt: HostRuntime) {
     let pairs = [(1, 40, Queue::Cold, 0), (2, 3, Queue::Hot, 1)];
     let mut cache = restored(&rt, rt.alloc(), 10, &pairs);
-    let row = [
+    let row = &[
         (Ask::Counts, Said::Counts([2, 43, 10, 0, 0])),
         (Ask::Insert(3, 1), Said::Done),
         (Ask::Contains(1), Said::Is(false)),
         (Ask::Contains(3), Said::Is(true)),
     ];
-    answers(&rt, &mut cache, &row);
+    answers(&rt, &mut cache, row);
     expect!(rt; cache.weight() <= 10);
 }
 

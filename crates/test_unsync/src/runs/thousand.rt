@@ -24,13 +24,15 @@ fn thousand_inserts(alloc: Global) -> Result<Vec<Call<u64, u64, Predicate>>, All
 fn a_scan_of_a_thousand_keys_takes_no_hot_one(rt: HostRuntime) {
     let mut cache: Cache<u64, u64> = expect_ok!(rt; Cache::new(rt.alloc(), 100));
     for key in 0..97 {
-        let row = [
+        let row = &[
             (Ask::Insert(key, key), Said::Done),
             (Ask::Get(key), Said::Value(key)),
         ];
-        answers(&rt, &mut cache, &row);
+        answers(&rt, &mut cache, row);
     }
-    let calls = expect_ok!(rt; thousand_inserts(rt.alloc()));
+    let Ok(calls) = thousand_inserts(rt.alloc()) else {
+        panic!(rt; "there is memory");
+    };
     let replies = scan(rt.alloc(), &mut cache, calls, &mut ()).ok();
     let replies = replies.expect(&rt, "there is memory");
     expect_eq!(rt; (replies.len(), cache.len()), (1000, 100));

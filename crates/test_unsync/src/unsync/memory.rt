@@ -2,20 +2,8 @@
 //! it needs.
 use crate::asked::{Ask, Said, answers, inserts};
 use bumpalo::Bump;
-use quick_cache_base::{DefaultHashBuilder, UnitWeighter};
-use quick_cache_unsync::{Cache, DefaultLifecycle};
-use std::alloc::Global;
+use quick_cache_unsync::Cache;
 use test_tools::{Rationed, expect, expect_eq, expect_ok};
-
-/// A cache whose allocator is counted.
-type CountedCache<A> = Cache<
-    u64,
-    u64,
-    UnitWeighter,
-    DefaultHashBuilder,
-    DefaultLifecycle<u64, u64>,
-    A,
->;
 
 /// A number of blocks that no test uses up.
 const BLOCKS: u64 = 1000000;
@@ -23,26 +11,26 @@ const BLOCKS: u64 = 1000000;
 #[test]
 fn what_takes_no_memory_asks_for_none(rt: HostRuntime) {
     let ration = Rationed::new(rt.alloc(), BLOCKS);
-    let mut cache: CountedCache<&Rationed<Global>> = expect_ok!(rt; Cache::new(&ration, 100));
+    let mut cache = expect_ok!(rt; Cache::new(&ration, 100));
     inserts(&rt, &mut cache, 0..100);
     expect!(rt; ration.left() < BLOCKS);
     ration.allow(BLOCKS);
     for key in 0..100 {
-        let row = [
+        let row = &[
             (Ask::Insert(key, 7), Said::Done),
             (Ask::Get(key), Said::Value(7)),
             (Ask::Get(1000), Said::Nothing),
             (Ask::Peek(key), Said::Value(7)),
             (Ask::Contains(key), Said::Is(true)),
         ];
-        answers(&rt, &mut cache, &row);
+        answers(&rt, &mut cache, row);
     }
     for key in 0..100 {
-        let row = [
+        let row = &[
             (Ask::Remove(key), Said::Pair(key, 7)),
             (Ask::Remove(key), Said::Nothing),
         ];
-        answers(&rt, &mut cache, &row);
+        answers(&rt, &mut cache, row);
     }
     expect_eq!(rt; ration.left(), BLOCKS);
 }
@@ -50,7 +38,7 @@ fn what_takes_no_memory_asks_for_none(rt: HostRuntime) {
 #[test]
 fn new_pairs_take_the_room_of_those_that_left(rt: HostRuntime) {
     let ration = Rationed::new(rt.alloc(), BLOCKS);
-    let mut cache: CountedCache<&Rationed<Global>> = expect_ok!(rt; Cache::new(&ration, 100));
+    let mut cache = expect_ok!(rt; Cache::new(&ration, 100));
     inserts(&rt, &mut cache, 0..1000);
     ration.allow(0);
     inserts(&rt, &mut cache, 1000..2000);
@@ -67,7 +55,7 @@ const ENTRY: usize = 64;
 fn a_growth_asks_for_at_most_four_times_its_need(rt: HostRuntime) {
     let arena = expect_ok!(rt; Bump::try_with_capacity(rt.alloc(), ARENA));
     let first = arena.chunk_capacity();
-    let mut cache: CountedCache<&Bump<Global>> = expect_ok!(rt; Cache::new(&arena, 10000));
+    let mut cache = expect_ok!(rt; Cache::new(&arena, 10000));
     for key in 0..10000 {
         let before = arena.chunk_capacity();
         inserts(&rt, &mut cache, key..key + 1);
