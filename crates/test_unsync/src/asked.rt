@@ -1,11 +1,11 @@
 //! Rows of calls of a cache, each with what it is to answer.
 use quick_cache_base::{Lifecycle, Refusal, Weighter};
 use quick_cache_unsync::{Cache, set};
-use std::alloc::{Allocator, Global};
+use std::alloc::Allocator;
 use std::hash::{BuildHasher, Hash};
 use std::ops::Range;
 use std::process::Abort;
-use test_tools::{expect_eq, expect_ok};
+use test_tools::expect_eq;
 
 /// A call.
 #[derive(Drop)]
@@ -94,17 +94,6 @@ pub(crate) fn answers<
     for (at, (ask, said)) in row.iter().enumerate() {
         expect_eq!(rt; (at, call(cache, ask) == *said), (at, true));
     }
-}
-
-/// Makes the calls of a row on a new cache for so many items.
-pub(crate) fn answers_of_new<K: Eq + Hash + Copy, V: Copy + PartialEq>(
-    rt: &impl Abort,
-    alloc: Global,
-    items: usize,
-    row: &[(Ask<K, V>, Said<K, V>)],
-) {
-    let mut cache: Cache<K, V> = expect_ok!(rt; Cache::new(alloc, items));
-    answers(rt, &mut cache, row);
 }
 
 /// Inserts these numbers, each with itself.

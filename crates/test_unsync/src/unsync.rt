@@ -3,7 +3,7 @@ mod answered;
 pub(crate) mod great;
 mod memory;
 
-use crate::asked::{Ask, Said, answers, answers_of_new, inserts};
+use crate::asked::{Ask, Said, answers, inserts};
 use quick_cache_base::{DefaultHashBuilder, Refusal, UnitWeighter};
 use quick_cache_unsync::{Cache, DefaultLifecycle, NotLoaded};
 use test_parts::counting::{Counting, Told};
@@ -11,6 +11,7 @@ use test_tools::{Rationed, expect, expect_eq, expect_ok};
 
 #[test]
 fn what_was_inserted_is_found(rt: HostRuntime) {
+    let mut cache = expect_ok!(rt; Cache::new(rt.alloc(), 5));
     let row = &[
         (Ask::Insert("square", "blue"), Said::Done),
         (Ask::Insert("circle", "black"), Said::Done),
@@ -18,7 +19,7 @@ fn what_was_inserted_is_found(rt: HostRuntime) {
         (Ask::Get("circle"), Said::Value("black")),
         (Ask::Get("triangle"), Said::Nothing),
     ];
-    answers_of_new(&rt, rt.alloc(), 5, row);
+    answers(&rt, &mut cache, row);
 }
 
 #[test]
@@ -91,14 +92,16 @@ fn four(
 #[test]
 fn a_loader_that_fails_leaves_the_key_to_the_next(rt: HostRuntime) {
     let mut cache: Cache<u64, u64> = expect_ok!(rt; Cache::new(rt.alloc(), 100));
-    let loaded = [Err(Refusal::Finished), Ok(4)].map(|given| four(&mut cache, given));
-    expect_eq!(rt; loaded, [Err(NotLoaded::Failed(Refusal::Finished)), Ok(4)]);
+    let failed = four(&mut cache, Err(Refusal::Finished));
+    expect_eq!(rt; failed, Err(NotLoaded::Failed(Refusal::Finished)));
+    expect_eq!(rt; four(&mut cache, Ok(4)), Ok(4));
     let row = &[(Ask::Counts, Said::Counts([1, 1, 100, 0, 2]))];
     answers(&rt, &mut cache, row);
 }
 
 #[test]
 fn gets_are_reads_and_a_peek_is_none(rt: HostRuntime) {
+    let mut cache = expect_ok!(rt; Cache::new(rt.alloc(), 100));
     let row = &[
         (Ask::Insert(1, 10), Said::Done),
         (Ask::Get(1), Said::Value(10)),
@@ -107,7 +110,7 @@ fn gets_are_reads_and_a_peek_is_none(rt: HostRuntime) {
         (Ask::Peek(1), Said::Value(10)),
         (Ask::Reads(1), Said::Count(3)),
     ];
-    answers_of_new(&rt, rt.alloc(), 100, row);
+    answers(&rt, &mut cache, row);
 }
 
 #[test]

@@ -1,5 +1,4 @@
 //! Calls that spare their caller a step: pairs are put, walked in a loop, and loaded with an answer.
-use crate::asked::{Ask, Said, answers};
 use quick_cache_unsync::{Cache, LoadError, NotLoaded, Refusal};
 use std::io;
 use test_tools::{expect_eq, expect_ok};
@@ -17,18 +16,24 @@ fn pairs_that_are_put_are_met_in_a_loop(rt: HostRuntime) {
     expect_eq!(rt; sum, 30);
 }
 
+/// What a load answers by a loader that gives this.
+fn load(
+    cache: &mut Cache<u64, u64>,
+    key: u64,
+    given: Result<u64, u8>,
+) -> Result<u64, LoadError<u8>> {
+    cache.get_or_load(&key, || given)
+}
+
 #[test]
 fn a_load_answers_its_value_kept_or_not(rt: HostRuntime) {
     for (items, kept) in [(0, 0), (10, 1)] {
         let mut cache: Cache<u64, u64> = expect_ok!(rt; Cache::new(rt.alloc(), items as usize));
-        let loaded = [(1, Ok(7)), (1, Ok(7)), (2, Err(3))].map(|(key, given)| cache.get_or_load(
-            &key,
-            || given,
-        ));
-        let wanted: [Result<u64, LoadError<u8>>; 3] = [Ok(7), Ok(7), Err(LoadError::Failed(3))];
-        expect_eq!(rt; loaded, wanted);
-        let counts = [kept, kept, items, kept, 3 - kept];
-        answers(&rt, &mut cache, &[(Ask::Counts, Said::Counts(counts))]);
+        let loaded = [load(&mut cache, 1, Ok(7)), load(&mut cache, 1, Ok(7))];
+        expect_eq!(rt; loaded, [Ok(7), Ok(7)]);
+        expect_eq!(rt; load(&mut cache, 2, Err(3)), Err(LoadError::Failed(3)));
+        let counts = [cache.len() as u64, cache.hits(), cache.misses()];
+        expect_eq!(rt; counts, [kept, kept, 3 - kept]);
     }
 }
 
