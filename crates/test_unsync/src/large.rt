@@ -4,11 +4,13 @@ ghost use Rattle.std.specs.Prelude.{All, IfOk};
 ghost use Rattle.quick_cache_runs.specs.Asked.{IfAsks};
 
 use crate::Predicate;
-use quick_cache_runs::{Call, Reply, run};
+use crate::asked::{Ask, Said, answers};
+use crate::runs::replies_to;
+use quick_cache_runs::{Call, Reply};
 use quick_cache_unsync::Cache;
 use std::alloc::{AllocError, Allocator, Global};
 use std::process::Abort;
-use test_tools::{Rationed, expect, expect_eq, expect_ok};
+use test_tools::{Rationed, expect_eq, expect_ok};
 
 /// How many entries or calls a test makes.
 const MANY: u64 = 70000;
@@ -17,7 +19,8 @@ const MANY: u64 = 70000;
 fn doubles(rt: &impl Abort, alloc: Global, count: u64) -> Cache<u64, u64> {
     let mut cache = expect_ok!(rt; Cache::new(alloc, count as usize));
     for key in 0..count {
-        expect_ok!(rt; cache.insert(key, key.saturating_mul(2)));
+        let row = &[(Ask::Insert(key, key.saturating_mul(2)), Said::Done)];
+        answers(rt, &mut cache, row);
     }
     cache
 }
@@ -25,15 +28,19 @@ fn doubles(rt: &impl Abort, alloc: Global, count: u64) -> Cache<u64, u64> {
 #[test]
 fn ample_memory_is_never_refused(rt: HostRuntime) {
     let mut cache = doubles(&rt, rt.alloc(), MANY);
-    expect_eq!(rt; cache.len(), MANY as usize);
+    let row = &[(Ask::Counts, Said::Counts([MANY, MANY, MANY, 0, 0]))];
+    answers(&rt, &mut cache, row);
     for key in 0..MANY {
         let double = key.saturating_mul(2);
-        expect_eq!(rt; cache.get(&key).copied(), Some(double));
-        expect_eq!(rt; cache.insert(key, double), Ok(()));
-        expect_eq!(rt; cache.remove(&key), Some((key, double)));
+        let row = &[
+            (Ask::Get(key), Said::Value(double)),
+            (Ask::Insert(key, double), Said::Done),
+            (Ask::Remove(key), Said::Pair(key, double)),
+        ];
+        answers(&rt, &mut cache, row);
     }
-    expect!(rt; cache.is_empty());
-    expect_eq!(rt; (cache.hits(), cache.misses()), (MANY, 0));
+    let row = &[(Ask::Counts, Said::Counts([0, 0, MANY, MANY, 0]))];
+    answers(&rt, &mut cache, row);
 }
 
 #[test]
@@ -42,7 +49,8 @@ fn a_clone_has_seventy_thousand_entries(rt: HostRuntime) {
     let mut copy = expect_ok!(rt; cache.try_clone());
     expect_eq!(rt; copy.len(), MANY as usize);
     for key in 0..MANY {
-        expect_eq!(rt; copy.remove(&key), Some((key, key.saturating_mul(2))));
+        let taken = Said::Pair(key, key.saturating_mul(2));
+        answers(&rt, &mut copy, &[(Ask::Remove(key), taken)]);
     }
     expect_eq!(rt; (cache.len(), copy.len()), (MANY as usize, 0));
 }
@@ -83,9 +91,7 @@ fn is_reply_at(reply: &Reply<u64, u64>, at: u64) -> bool {
 fn run_by_threes(rt: &impl Abort, alloc: Global, count: u64) {
     let mut cache: Cache<u64, u64> = expect_ok!(rt; Cache::new(alloc, 3));
     let calls = expect_ok!(rt; threes(alloc, count));
-    let Ok(replies) = run(alloc, &mut cache, calls, &mut ()) else {
-        panic!(rt; "there is memory");
-    };
+    let replies = replies_to(rt, alloc, &mut cache, calls);
     expect_eq!(rt; replies.len() as u64, count);
     for (at, reply) in replies.iter().enumerate() {
         expect_eq!(rt; (at, is_reply_at(reply, at as u64)), (at, true));
@@ -104,9 +110,7 @@ fn a_list_of_replies_asks_for_memory_once(rt: HostRuntime) {
     let mut cache: Cache<u64, u64> = expect_ok!(rt; Cache::new(rt.alloc(), 3));
     let calls = expect_ok!(rt; threes(&ration, MANY));
     ration.allow(1);
-    let Ok(replies) = run(&ration, &mut cache, calls, &mut ()) else {
-        panic!(rt; "there is room for the replies");
-    };
+    let replies = replies_to(&rt, &ration, &mut cache, calls);
     expect_eq!(rt; (replies.len() as u64, ration.left()), (MANY, 0));
 }
 
@@ -134,9 +138,7 @@ fn a_walk_and_a_drain_give_seventy_thousand_pairs(rt: HostRuntime) {
         Call::Drain,
         Call::Iter,
     ]);
-    let Ok(replies) = run(alloc, &mut cache, calls, &mut ()) else {
-        panic!(rt; "there is memory");
-    };
+    let replies = replies_to(&rt, alloc, &mut cache, calls);
     let wanted = [(MANY, 2449965000), (MANY, 2449965000), (0, 0)];
     for (reply, wanted) in replies.iter().zip(wanted) {
         expect_eq!(rt; doubles_in(reply), Some(wanted));

@@ -52,10 +52,10 @@ fn what_a_thread_holds_stays(rt: HostRuntime) {
 fn a_second_handle_holds_and_the_only_one_does_not(rt: HostRuntime) {
     let alone = expect_ok!(rt; Rc::new(rt.alloc(), 1));
     let shared = expect_ok!(rt; Arc::new(rt.alloc(), 1));
-    expect_eq!(rt; (alone.is_held(), shared.is_held()), (false, false));
+    let are_held = [alone.is_held(), shared.is_held()];
     let other = expect_ok!(rt; alone.clone());
     let others = expect_ok!(rt; shared.clone());
-    expect_eq!(rt; (other.is_held(), others.is_held()), (true, true));
+    expect_eq!(rt; (are_held, [other.is_held(), others.is_held()]), ([false; 2], [true; 2]));
 }
 
 /// Notes which pair left last, and why.
@@ -86,8 +86,7 @@ fn a_put_tells_why_each_pair_left(rt: HostRuntime) {
         (4, "much too long", Some((4, Cause::EvictedCold))),
     ] {
         last.set(None);
-        expect_eq!(rt; cache.put(key, text), Ok(()));
-        expect_eq!(rt; last.get(), left);
+        expect_eq!(rt; (cache.put(key, text), last.get()), (Ok(()), left));
     }
 }
 
@@ -98,8 +97,8 @@ fn what_leaves_without_a_list_is_lost(rt: HostRuntime) {
         expect_ok!(rt; Cache::with(rt.alloc(), 2, 2, UnitWeighter, builder, OnLeave(Collect)));
     let mut left: Collected<u64, u64> = Collected::default();
     for (key, lost) in [(1, 0), (2, 0), (3, 1), (3, 2)] {
-        expect_eq!(rt; cache.insert_with_lifecycle(key, 7, &mut left), Ok(()));
-        expect_eq!(rt; left.lost(), lost);
+        let is_in = cache.insert_with_lifecycle(key, 7, &mut left).is_ok();
+        expect_eq!(rt; (is_in, left.lost()), (true, lost));
     }
 }
 

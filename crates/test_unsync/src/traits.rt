@@ -79,7 +79,7 @@ fn two_pairs_of_one_name_are_two_keys(rt: HostRuntime) {
     let mut cache: Cache<Shape, &str> = expect_ok!(rt; Cache::new(alloc, 5));
     for (year, colour) in [(2022, "blue"), (2023, "black")] {
         let name = expect_ok!(rt; String::from_str(alloc, "square"));
-        expect_ok!(rt; cache.insert(Shape { name, year }, colour));
+        expect!(rt; cache.insert(Shape { name, year }, colour).is_ok());
     }
     let rows = [
         ("square", 2022, Some("blue")),

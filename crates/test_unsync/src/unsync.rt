@@ -1,38 +1,48 @@
 //! The cache for one thread: first examples, texts, a scan, and refused growths.
 mod answered;
-mod great;
+pub(crate) mod great;
 mod memory;
 
+use crate::asked::{Ask, Said, answers, inserts};
 use quick_cache_base::{DefaultHashBuilder, Refusal, UnitWeighter};
 use quick_cache_unsync::{Cache, DefaultLifecycle, NotLoaded};
-use std::alloc::Global;
 use test_parts::counting::{Counting, Told};
 use test_tools::{Rationed, expect, expect_eq, expect_ok};
 
 #[test]
 fn what_was_inserted_is_found(rt: HostRuntime) {
-    let mut cache: Cache<&str, &str> = expect_ok!(rt; Cache::new(rt.alloc(), 5));
-    expect_ok!(rt; cache.insert("square", "blue"));
-    expect_ok!(rt; cache.insert("circle", "black"));
-    expect_eq!(rt; cache.get(&"square").copied(), Some("blue"));
-    expect_eq!(rt; cache.get(&"circle").copied(), Some("black"));
-    expect_eq!(rt; cache.get(&"triangle").copied(), None);
+    let mut cache = expect_ok!(rt; Cache::new(rt.alloc(), 5));
+    let row = &[
+        (Ask::Insert("square", "blue"), Said::Done),
+        (Ask::Insert("circle", "black"), Said::Done),
+        (Ask::Get("square"), Said::Value("blue")),
+        (Ask::Get("circle"), Said::Value("black")),
+        (Ask::Get("triangle"), Said::Nothing),
+    ];
+    answers(&rt, &mut cache, row);
 }
 
 #[test]
 fn the_counts_and_the_clone_tell_what_is_there(rt: HostRuntime) {
     let mut cache: Cache<u64, u64> = expect_ok!(rt; Cache::new(rt.alloc(), 5));
     expect!(rt; cache.is_empty());
-    expect_ok!(rt; cache.insert(1, 10));
-    expect_ok!(rt; cache.insert(2, 20));
-    expect_eq!(rt; cache.get(&1).copied(), Some(10));
-    expect_eq!(rt; cache.get(&3).copied(), None);
-    expect!(rt; cache.contains_key(&2));
+    let row = &[
+        (Ask::Insert(1, 10), Said::Done),
+        (Ask::Insert(2, 20), Said::Done),
+        (Ask::Get(1), Said::Value(10)),
+        (Ask::Get(3), Said::Nothing),
+        (Ask::Contains(2), Said::Is(true)),
+    ];
+    answers(&rt, &mut cache, row);
     let mut copy = expect_ok!(rt; cache.try_clone());
-    expect_eq!(rt; copy.remove(&2), Some((2, 20)));
-    expect!(rt; !copy.contains_key(&2));
-    expect_eq!(rt; (cache.len(), cache.weight(), cache.capacity()), (2, 2, 5));
-    expect_eq!(rt; (copy.len(), copy.hits(), copy.misses()), (1, 1, 1));
+    let row = &[
+        (Ask::Remove(2), Said::Pair(2, 20)),
+        (Ask::Contains(2), Said::Is(false)),
+        (Ask::Counts, Said::Counts([1, 1, 5, 1, 1])),
+    ];
+    answers(&rt, &mut copy, row);
+    let row = &[(Ask::Counts, Said::Counts([2, 2, 5, 1, 1]))];
+    answers(&rt, &mut cache, row);
     expect_eq!(rt; cache.shard().hot_target(), 4);
     let text =
         expect_ok!(rt; format!(in rt.alloc(); "{cache:?}, {:?}", DefaultLifecycle::<u64, u64>::new()));
@@ -42,26 +52,22 @@ fn the_counts_and_the_clone_tell_what_is_there(rt: HostRuntime) {
 #[test]
 fn walks_print_their_names_and_memory_is_told(rt: HostRuntime) {
     let mut cache: Cache<u64, u64> = expect_ok!(rt; Cache::new(rt.alloc(), 100));
-    expect_eq!(rt; cache.memory_used().total(), 0);
-    expect_ok!(rt; cache.insert(1, 10));
-    expect!(rt; cache.memory_used().entries > 0 && cache.memory_used().map > 0);
-    let text = expect_ok!(rt; format!(in rt.alloc(); "{:?}", cache.iter()));
-    expect_eq!(rt; text.as_str(), "Iter { .. }");
-    let text = expect_ok!(rt; format!(in rt.alloc(); "{:?}", cache.drain()));
-    expect_eq!(rt; text.as_str(), "Drain { .. }");
+    let before = cache.memory_used().total();
+    answers(&rt, &mut cache, &[(Ask::Insert(1, 10), Said::Done)]);
+    let used = cache.memory_used();
+    expect_eq!(rt; (before, used.entries > 0, used.map > 0), (0, true, true));
+    let iter = expect_ok!(rt; format!(in rt.alloc(); "{:?}", cache.iter()));
+    let drain = expect_ok!(rt; format!(in rt.alloc(); "{:?}", cache.drain()));
+    expect_eq!(rt; [iter.as_str(), drain.as_str()], ["Iter { .. }", "Drain { .. }"]);
 }
 
 #[test]
 fn a_thousand_new_keys_leave_the_hot_items_alone(rt: HostRuntime) {
     let mut cache = expect_ok!(rt; Cache::new(rt.alloc(), 100));
+    inserts(&rt, &mut cache, 0..97);
+    inserts(&rt, &mut cache, 1000..2000);
     for key in 0..97 {
-        expect_ok!(rt; cache.insert(key, key));
-    }
-    for key in 1000..2000 {
-        expect_ok!(rt; cache.insert(key, key));
-    }
-    for key in 0..97u64 {
-        expect_eq!(rt; (key, cache.contains_key(&key)), (key, true));
+        answers(&rt, &mut cache, &[(Ask::Contains(key), Said::Is(true))]);
     }
     let shard = cache.shard();
     expect_eq!(rt;
@@ -89,75 +95,67 @@ fn a_loader_that_fails_leaves_the_key_to_the_next(rt: HostRuntime) {
     let failed = four(&mut cache, Err(Refusal::Finished));
     expect_eq!(rt; failed, Err(NotLoaded::Failed(Refusal::Finished)));
     expect_eq!(rt; four(&mut cache, Ok(4)), Ok(4));
-    expect_eq!(rt; (cache.hits(), cache.misses()), (0, 2));
+    let row = &[(Ask::Counts, Said::Counts([1, 1, 100, 0, 2]))];
+    answers(&rt, &mut cache, row);
 }
 
 #[test]
 fn gets_are_reads_and_a_peek_is_none(rt: HostRuntime) {
-    let mut cache: Cache<u64, u64> = expect_ok!(rt; Cache::new(rt.alloc(), 100));
-    expect_ok!(rt; cache.insert(1, 10));
-    for _ in 0..3 {
-        expect_eq!(rt; cache.get(&1).copied(), Some(10));
-    }
-    expect_eq!(rt; cache.peek(&1).copied(), Some(10));
-    let reads = cache.item_stats(&1).map(|stats| stats.access_count);
-    expect_eq!(rt; reads, Some(3));
+    let mut cache = expect_ok!(rt; Cache::new(rt.alloc(), 100));
+    let row = &[
+        (Ask::Insert(1, 10), Said::Done),
+        (Ask::Get(1), Said::Value(10)),
+        (Ask::Get(1), Said::Value(10)),
+        (Ask::Get(1), Said::Value(10)),
+        (Ask::Peek(1), Said::Value(10)),
+        (Ask::Reads(1), Said::Count(3)),
+    ];
+    answers(&rt, &mut cache, row);
 }
 
 #[test]
 fn a_clone_of_a_cache_with_room_is_another_cache(rt: HostRuntime) {
     let mut cache: Cache<u64, u64> = expect_ok!(rt; Cache::new(rt.alloc(), 5));
-    expect_ok!(rt; cache.insert(1, 10));
+    answers(&rt, &mut cache, &[(Ask::Insert(1, 10), Said::Done)]);
     expect_eq!(rt; cache.reserve(3), Ok(()));
     let mut copy = expect_ok!(rt; cache.try_clone());
-    expect_eq!(rt; cache.insert(2, 20), Ok(()));
-    let in_the_copy = (copy.get(&1).copied(), copy.get(&2).copied());
-    expect_eq!(rt; (in_the_copy, cache.get(&2).copied()), ((Some(10), None), Some(20)));
-}
-
-/// A cache whose hooks count their calls, and whose growths can be refused.
-type WatchedCache<'a> = Cache<
-    u64,
-    u64,
-    UnitWeighter,
-    DefaultHashBuilder,
-    Counting,
-    &'a Rationed<Global>,
->;
-
-/// An empty one, of so many items of weight 1.
-fn watched<'a>(ration: &'a Rationed<Global>, items: usize) -> Result<WatchedCache<'a>, Refusal> {
-    let (weigher, builder) = (UnitWeighter, DefaultHashBuilder::new());
-    Cache::with(ration, items, items as u64, weigher, builder, Counting)
+    answers(&rt, &mut cache, &[(Ask::Insert(2, 20), Said::Done)]);
+    let row = &[(Ask::Get(1), Said::Value(10)), (Ask::Get(2), Said::Nothing)];
+    answers(&rt, &mut copy, row);
+    answers(&rt, &mut cache, &[(Ask::Get(2), Said::Value(20))]);
 }
 
 #[test]
 fn a_refused_first_growth_changes_nothing(rt: HostRuntime) {
     let ration = Rationed::new(rt.alloc(), 0);
-    let mut cache = expect_ok!(rt; watched(&ration, 5));
+    let builder = DefaultHashBuilder::new();
+    let mut cache = expect_ok!(rt; Cache::with(&ration, 5, 5, UnitWeighter, builder, Counting));
     let mut told = Told::default();
     let refused = cache.insert_with_lifecycle(1, 1, &mut told);
-    expect_eq!(rt; refused, Err((1, 1, Refusal::Memory)));
-    expect_eq!(rt; (cache.len(), told), (0, Told::default()));
+    let wanted = (Err((1, 1, Refusal::Memory)), 0, Told::default());
+    expect_eq!(rt; (refused, cache.len(), told), wanted);
     ration.allow(12);
-    expect_eq!(rt; cache.insert(1, 1), Ok(()));
-    expect_eq!(rt; cache.peek(&1).copied(), Some(1));
+    let row = &[
+        (Ask::Insert(1, 1), Said::Done),
+        (Ask::Peek(1), Said::Value(1)),
+    ];
+    answers(&rt, &mut cache, row);
     // With no memory, what is there can be written over.
     ration.allow(0);
-    expect_eq!(rt; cache.insert(1, 2), Ok(()));
-    expect_eq!(rt; cache.remove(&1), Some((1, 2)));
+    let row = &[
+        (Ask::Insert(1, 2), Said::Done),
+        (Ask::Remove(1), Said::Pair(1, 2)),
+    ];
+    answers(&rt, &mut cache, row);
 }
 
 #[test]
 fn a_cache_for_nothing_turns_each_pair_away(rt: HostRuntime) {
     let ration = Rationed::new(rt.alloc(), 12);
-    let mut cache = expect_ok!(rt; watched(&ration, 0));
+    let builder = DefaultHashBuilder::new();
+    let mut cache = expect_ok!(rt; Cache::with(&ration, 0, 0, UnitWeighter, builder, Counting));
     let mut told = Told::default();
     expect_eq!(rt; cache.insert_with_lifecycle(1, 10, &mut told), Ok(()));
-    let turned_away = Told {
-        before: 1,
-        hot: 0,
-        cold: 1,
-    };
-    expect_eq!(rt; (cache.get(&1).copied(), told), (None, turned_away));
+    expect_eq!(rt; [told.before, told.hot, told.cold], [1, 0, 1]);
+    answers(&rt, &mut cache, &[(Ask::Get(1), Said::Nothing)]);
 }

@@ -37,36 +37,34 @@ impl Equivalent<Letter> for Small {
     }
 }
 
+/// Inserts a letter, and tells what is then found in lower case.
+fn put(shard: &mut Tested<Letter, u64>, letter: Letter, value: u64) -> (bool, Option<u64>) {
+    let query = Small { number: 3 };
+    let hash = shard.hash(&letter);
+    let is_put = shard
+        .insert(
+            &mut Told::default(),
+            hash,
+            letter,
+            value,
+            InsertStrategy::Insert,
+        )
+        .is_ok();
+    let hash = shard.hash(&query);
+    (is_put, shard.get(hash, &query).copied())
+}
+
 #[test]
 fn a_query_may_stand_for_one_of_two_equal_keys(rt: HostRuntime) {
     let mut shard: Tested<Letter, u64> = expect_ok!(rt; empty(rt.alloc(), 4));
-    let mut told = Told::default();
-    let small = Letter {
-        number: 3,
-        capital: false,
-    };
-    let capital = Letter {
-        number: 3,
-        capital: true,
-    };
-    expect!(rt; small == capital);
+    let [small, capital] = [false, true].map(|capital| Letter { number: 3, capital });
     let query = Small { number: 3 };
-    expect!(rt; query.equivalent(&small));
-    expect!(rt; !query.equivalent(&capital));
+    let stands = [query.equivalent(&small), query.equivalent(&capital)];
+    expect_eq!(rt; (small == capital, stands), (true, [true, false]));
     let hash = shard.hash(&query);
     expect_eq!(rt; hash, shard.hash(&small));
-    expect!(rt;
-        shard
-            .insert(&mut told, hash, small, 12, InsertStrategy::Insert)
-            .is_ok()
-    );
-    expect_eq!(rt; shard.get(hash, &query).copied(), Some(12));
-    // Under an equal key of the other case it finds nothing.
+    expect_eq!(rt; put(&mut shard, small, 12), (true, Some(12)));
     expect!(rt; shard.remove(hash, &query).is_some());
-    expect!(rt;
-        shard
-            .insert(&mut told, hash, capital, 13, InsertStrategy::Insert)
-            .is_ok()
-    );
-    expect_eq!(rt; shard.get(hash, &query).copied(), None);
+    // Under an equal key of the other case it finds nothing.
+    expect_eq!(rt; put(&mut shard, capital, 13), (true, None));
 }

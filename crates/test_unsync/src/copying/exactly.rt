@@ -10,6 +10,8 @@ ghost use Rattle.quick_cache_shard.specs.Shard.{ClonesExactly};
 ghost use Rattle.quick_cache_shard.specs.Steps.{rules_in, hooks_in};
 ghost use Rattle.quick_cache_unsync.specs.Touches.{no_touches};
 
+use crate::Predicate;
+use crate::asked::{Ask, Said, answers};
 use quick_cache_base::protocol::{Answer, Core, Event, run as run_loading};
 use quick_cache_base::{Lifecycle, Refusal, Weighter};
 use quick_cache_runs::{Call, Reply, run};
@@ -18,9 +20,6 @@ use quick_cache_unsync::Cache;
 use std::alloc::{Allocator, Global};
 use std::hash::{BuildHasher, Hash};
 use test_tools::{expect_eq, expect_ok};
-
-/// A predicate that a call may ask.
-type Predicate = fn(&u64, &u64) -> bool;
 
 /// A run over any such keys and values shows those that it finds, where pinning is steady.
 fn run_exactly<
@@ -103,18 +102,14 @@ fn a_run_shows_the_numbers_that_it_finds(rt: HostRuntime) {
     let mut cache: Cache<u64, u64> = expect_ok!(rt; Cache::new(alloc, 5));
     let calls: Vec<Call<u64, u64, Predicate>> =
         expect_ok!(rt; vec![in alloc; Call::Insert(1, 10), Call::Get(1)]);
-    let Ok(replies) = run_exactly(alloc, &mut cache, calls, &mut ()) else {
-        panic!(rt; "there is memory");
-    };
-    expect_eq!(rt;
-        replies.as_slice(),
-        [Reply::Done, Reply::Value(Some(10))].as_slice()
-    );
+    let replies = run_exactly(alloc, &mut cache, calls, &mut ()).ok();
+    let replies = replies.expect(&rt, "there is memory");
+    let wanted = [Reply::Done, Reply::Value(Some(10))];
+    expect_eq!(rt; replies.as_slice(), wanted.as_slice());
     let calls: Vec<Call<u64, u64, Predicate>> =
         expect_ok!(rt; vec![in alloc; Call::Remove(1), Call::Get(1)]);
-    let Ok(replies) = run_numbers(alloc, &mut cache, calls, &mut ()) else {
-        panic!(rt; "there is memory");
-    };
+    let replies = run_numbers(alloc, &mut cache, calls, &mut ()).ok();
+    let replies = replies.expect(&rt, "there is memory");
     let wanted = [Reply::Pair(Some((1, 10))), Reply::Value(None)];
     expect_eq!(rt; replies.as_slice(), wanted.as_slice());
 }
@@ -122,11 +117,17 @@ fn a_run_shows_the_numbers_that_it_finds(rt: HostRuntime) {
 #[test]
 fn a_copy_of_numbers_counts_what_was_counted(rt: HostRuntime) {
     let mut cache: Cache<u64, u64> = expect_ok!(rt; Cache::new(rt.alloc(), 5));
-    expect_ok!(rt; cache.insert(1, 10));
-    let _ = cache.get(&1);
-    let copy = expect_ok!(rt; copy_numbers(&cache));
-    expect_eq!(rt; (copy.len(), copy.weight(), copy.hits()), (1, 1, 1));
-    expect_eq!(rt; copy.peek(&1).copied(), Some(10));
+    let row = &[
+        (Ask::Insert(1, 10), Said::Done),
+        (Ask::Get(1), Said::Value(10)),
+    ];
+    answers(&rt, &mut cache, row);
+    let mut copy = expect_ok!(rt; copy_numbers(&cache));
+    let row = &[
+        (Ask::Counts, Said::Counts([1, 1, 5, 1, 0])),
+        (Ask::Peek(1), Said::Value(10)),
+    ];
+    answers(&rt, &mut copy, row);
 }
 
 #[test]

@@ -8,6 +8,7 @@ ghost use Rattle.quick_cache_shard.specs.Steps.{rules_in, hooks_in};
 ghost use Rattle.quick_cache_unsync.specs.Touches.{no_touches};
 
 use quick_cache_base::{DefaultHashBuilder, Lifecycle, UnitWeighter, Weighter};
+use quick_cache_listeners::{Listener, OnLeave};
 use quick_cache_runs::{Call, Reply, run};
 use quick_cache_shard::Ruled;
 use quick_cache_unsync::Cache;
@@ -58,37 +59,11 @@ fn run_numbered<
 #[derive(Drop)]
 struct AddsUp;
 
-impl<K: Eq + Drop, V: Drop> Lifecycle<K, Numbered<V>> for AddsUp {
-    type RequestState = u64;
+impl<K: Drop, V: Drop> Listener<K, Numbered<V>> for AddsUp {
+    type State = u64;
 
-    ghost before_evict_gives = { λ _ _ _ value _ left. left ≡ value };
-
-    ghost on_evict_gives = { λ _ _ _ _ _. Unit {0} };
-
-    ghost on_evict_cold_gives = { λ _ _ _ _ _. Unit {0} };
-
-    ghost on_evict_hot_gives = { λ _ _ _ _ _. Unit {0} };
-
-    ghost keeps_fits = { λ _ _ _ _ _ _ _ fits. fits };
-
-    ghost same_fits = { λ _ _ _ _ fits. fits };
-
-    fn is_pinned(&self, _key: &K, _val: &Numbered<V>) -> bool {
-        false
-    }
-
-    fn before_evict(&self, _state: &mut u64, _key: &K, _val: &mut Numbered<V>) {}
-
-    fn on_evict(&self, state: &mut u64, _key: K, val: Numbered<V>) {
-        *state = state.saturating_add(val.number);
-    }
-
-    fn on_evict_cold(&self, state: &mut u64, key: K, val: Numbered<V>) {
-        self.on_evict(state, key, val);
-    }
-
-    fn on_evict_hot(&self, state: &mut u64, key: K, val: Numbered<V>) {
-        self.on_evict(state, key, val);
+    fn tell(&self, sum: &mut u64, _key: K, val: Numbered<V>) {
+        *sum = sum.saturating_add(val.number);
     }
 }
 
@@ -111,8 +86,9 @@ fn given_out<K, V>(reply: &Reply<K, Numbered<V>>) -> u64 {
 #[test]
 fn each_numbered_value_comes_out_once(rt: HostRuntime) {
     let alloc = rt.alloc();
-    let mut cache: Cache<u64, Numbered<u64>, UnitWeighter, DefaultHashBuilder, AddsUp> =
-        expect_ok!(rt; Cache::with(alloc, 3, 3, UnitWeighter, DefaultHashBuilder::new(), AddsUp));
+    let builder = DefaultHashBuilder::new();
+    let mut cache: Cache<u64, Numbered<u64>, UnitWeighter, DefaultHashBuilder, OnLeave<AddsUp>> =
+        expect_ok!(rt; Cache::with(alloc, 3, 3, UnitWeighter, builder, OnLeave(AddsUp)));
     // Equal values, each with a decimal place of its own.
     let one = |number| Numbered { value: 7, number };
     let calls: Vec<Call<u64, Numbered<u64>, Predicate>> = expect_ok!(rt; vec![in alloc;
@@ -128,9 +104,8 @@ fn each_numbered_value_comes_out_once(rt: HostRuntime) {
         Call::Drain,
     ]);
     let mut sum = 0;
-    let Ok(replies) = run_numbered(alloc, &mut cache, calls, &mut sum) else {
-        panic!(rt; "there is memory");
-    };
+    let replies = run_numbered(alloc, &mut cache, calls, &mut sum).ok();
+    let replies = replies.expect(&rt, "there is memory");
     expect_eq!(rt; replies.len(), 10);
     for reply in &replies {
         sum = sum.saturating_add(given_out(reply));

@@ -1,9 +1,11 @@
 //! Items are saved, and come back to where they stood.
 ghost use Rattle.std.specs.Prelude.{◌==◌, ◌/◌};
 
+use crate::asked::{Ask, Said, answers};
+use crate::unsync::great::AsItself;
 use quick_cache_listeners::{Pin, PinBy};
 use quick_cache_unsync::{
-    Cache, DefaultHashBuilder, DefaultLifecycle, Options, OptionsBuilder, Queue, Weighter,
+    Cache, DefaultHashBuilder, DefaultLifecycle, Options, OptionsBuilder, Queue,
 };
 use std::alloc::Global;
 use std::process::Abort;
@@ -11,18 +13,6 @@ use test_tools::{expect, expect_eq, expect_ok};
 
 /// A pair that is saved, with its ring and its mark.
 type Saved = (u64, u64, Queue, u8);
-
-/// The value is the weight.
-#[derive(Drop)]
-struct ByValue;
-
-impl Weighter<u64, u64> for ByValue {
-    ghost weight_of = { λ _ _ value. value };
-
-    fn weight(&self, _key: &u64, value: &u64) -> u64 {
-        *value
-    }
-}
 
 /// Pins the keys from 1000 to 1999.
 #[derive(Drop)]
@@ -40,7 +30,7 @@ impl Pin<u64, u64> for Great {
 type Weighed = Cache<
     u64,
     u64,
-    ByValue,
+    AsItself,
     DefaultHashBuilder,
     PinBy<Great, DefaultLifecycle<u64, u64>>,
 >;
@@ -59,7 +49,7 @@ fn restored(rt: &impl Abort, alloc: Global, capacity: u64, pairs: &[Saved]) -> W
     let lifecycle = PinBy(Great, DefaultLifecycle::new());
     let builder = DefaultHashBuilder::new();
     let pairs = pairs.iter().copied();
-    expect_ok!(rt; Cache::restored(alloc, options, ByValue, builder, lifecycle, pairs))
+    expect_ok!(rt; Cache::restored(alloc, options, AsItself, builder, lifecycle, pairs))
 }
 
 /// All items, those that weigh nothing last, by ascending keys.
@@ -78,22 +68,13 @@ fn saved(rt: &impl Abort, alloc: Global, cache: &Weighed) -> Vec<Saved> {
     list
 }
 
-/// What a cache weighs, how many items it has, and how many look-ups hit and missed.
-fn counts_of(cache: &Weighed) -> [u64; 4] {
-    [
-        cache.weight(),
-        cache.len() as u64,
-        cache.hits(),
-        cache.misses(),
-    ]
-}
-
 /// All items of a cache, with which it stands again.
 fn stands_again(rt: &impl Abort, alloc: Global, cache: &Weighed) -> Vec<Saved> {
     let list = saved(rt, alloc, cache);
-    let again = restored(rt, alloc, cache.capacity(), &list);
+    let mut again = restored(rt, alloc, cache.capacity(), &list);
     expect_eq!(rt; saved(rt, alloc, &again).as_slice(), list.as_slice());
-    expect_eq!(rt; counts_of(&again), [cache.weight(), cache.len() as u64, 0, 0]);
+    let counts = [cache.len() as u64, cache.weight(), cache.capacity(), 0, 0];
+    answers(rt, &mut again, &[(Ask::Counts, Said::Counts(counts))]);
     list
 }
 
@@ -147,22 +128,24 @@ fn a_cache_above_its_capacity_stands_again(rt: HostRuntime) {
     // Two pairs are pinned, and only one has room.
     let mut cache = restored(&rt, alloc, 1, &[]);
     for key in [1000, 1001] {
-        expect_ok!(rt; cache.insert(key, 1));
+        answers(&rt, &mut cache, &[(Ask::Insert(key, 1), Said::Done)]);
     }
-    expect_eq!(rt; stands_again(&rt, alloc, &cache).len(), 2);
-    expect_eq!(rt; cache.weight(), 2);
+    let len = stands_again(&rt, alloc, &cache).len();
+    expect_eq!(rt; (len, cache.weight()), (2, 2));
 }
 
 #[test]
 fn the_next_write_makes_room_for_what_came_back_too_heavy(rt: HostRuntime) {
     let pairs = [(1, 40, Queue::Cold, 0), (2, 3, Queue::Hot, 1)];
     let mut cache = restored(&rt, rt.alloc(), 10, &pairs);
-    expect_eq!(rt; cache.capacity(), 10);
-    expect_eq!(rt; counts_of(&cache), [43, 2, 0, 0]);
-    expect_ok!(rt; cache.insert(3, 1));
+    let row = &[
+        (Ask::Counts, Said::Counts([2, 43, 10, 0, 0])),
+        (Ask::Insert(3, 1), Said::Done),
+        (Ask::Contains(1), Said::Is(false)),
+        (Ask::Contains(3), Said::Is(true)),
+    ];
+    answers(&rt, &mut cache, row);
     expect!(rt; cache.weight() <= 10);
-    expect!(rt; !cache.contains_key(&1));
-    expect!(rt; cache.contains_key(&3));
 }
 
 #[test]
@@ -203,7 +186,7 @@ fn what_cannot_come_back_is_given_back(rt: HostRuntime) {
     ];
     expect_eq!(rt; saved(&rt, alloc, &cache).as_slice(), list.as_slice());
     // No ghost comes of it.
-    expect_eq!(rt; cache.remove(&1), Some((1, 4)));
+    answers(&rt, &mut cache, &[(Ask::Remove(1), Said::Pair(1, 4))]);
     expect!(rt; comes_back(&rt, &mut cache, (1, 4, Queue::Cold, 0)));
 }
 

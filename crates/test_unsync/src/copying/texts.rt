@@ -113,9 +113,8 @@ fn a_run_shows_the_texts_that_it_finds(rt: HostRuntime) {
         Call::Remove(text(&rt, alloc, "square")),
         Call::Get(text(&rt, alloc, "square")),
     ]);
-    let Ok(replies) = run_texts(alloc, &mut cache, calls, &mut ()) else {
-        panic!(rt; "there is memory");
-    };
+    let replies = run_texts(alloc, &mut cache, calls, &mut ()).ok();
+    let replies = replies.expect(&rt, "there is memory");
     let wanted = [
         Reply::Done,
         Reply::Value(Some(text(&rt, alloc, "blue"))),

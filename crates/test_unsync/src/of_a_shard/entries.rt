@@ -2,13 +2,13 @@
 ghost use Rattle.std.specs.Cmp.Rules.{comparing, hashing};
 ghost use Rattle.std.proofs.Common.{rules};
 
-use crate::of_a_shard::rows::{Tested, empty, put, seen};
+use crate::of_a_shard::rows::{Tested, counts, empty, put, seen};
 use quick_cache_shard::{EntryAction, EntryOrPlaceholder, Plainly};
 use test_parts::counting::Told;
-use test_tools::{expect, expect_eq, expect_ok};
+use test_tools::{expect_eq, expect_ok};
 
 /// What a callback chooses.
-#[derive(Clone, Copy)]
+#[derive(Drop)]
 enum Choice {
     Keep,
     Remove,
@@ -16,7 +16,7 @@ enum Choice {
 }
 
 /// What came of an entry call.
-#[derive(Debug, Clone, Copy, PartialEq)]
+#[derive(PartialEq, Drop)]
 enum Came {
     Kept(u64),
     Removed(u64, u64),
@@ -50,22 +50,23 @@ fn enter(shard: &mut Tested<u64, u64>, key: u64, written: u64, choice: Choice) -
 #[test]
 fn an_entry_call_keeps_removes_and_replaces(rt: HostRuntime) {
     let mut shard: Tested<u64, u64> = expect_ok!(rt; empty(rt.alloc(), 4));
-    let mut told = Told::default();
-    for key in 1..=3u64 {
-        expect!(rt; put(&mut shard, &mut told, key, key));
-    }
+    put(
+        &rt,
+        &mut shard,
+        &mut Told::default(),
+        &[(1, 1), (2, 2), (3, 3)],
+    );
     // The key, what is written and chosen, what comes of it; and hits, misses and items then.
     let rows = [
-        (1, 11, Choice::Keep, Came::Kept(11), (1, 0, 3)),
-        (2, 21, Choice::Remove, Came::Removed(2, 21), (1, 0, 2)),
-        (3, 31, Choice::Replace, Came::Replaced(31), (1, 0, 1)),
-        (3, 32, Choice::Replace, Came::Met, (2, 0, 1)),
-        (4, 41, Choice::Keep, Came::Made, (2, 1, 1)),
+        (1, 11, Choice::Keep, Came::Kept(11), [1, 0, 3]),
+        (2, 21, Choice::Remove, Came::Removed(2, 21), [1, 0, 2]),
+        (3, 31, Choice::Replace, Came::Replaced(31), [1, 0, 1]),
+        (3, 32, Choice::Replace, Came::Met, [2, 0, 1]),
+        (4, 41, Choice::Keep, Came::Made, [2, 1, 1]),
     ];
-    for (key, written, choice, came, counts) in rows {
-        expect_eq!(rt; (key, enter(&mut shard, key, written, choice)), (key, came));
-        let found = (shard.hits(), shard.misses(), shard.len());
-        expect_eq!(rt; (key, found), (key, counts));
+    for (key, written, choice, came, told) in rows {
+        let is_right = enter(&mut shard, key, written, choice) == came;
+        expect_eq!(rt; (key, is_right, counts(&shard)), (key, true, told));
     }
     expect_eq!(rt; seen(&shard, 1), (Some(11), true));
 }

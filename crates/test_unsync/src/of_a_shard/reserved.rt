@@ -12,37 +12,27 @@ type RationedCache<'a> = Cache<
     &'a Rationed<Global>,
 >;
 
-/// The keys and the marks of both rings and the ghosts in their order, drawn together into one
-/// number.
-fn order_of(cache: &RationedCache<'_>) -> u64 {
-    let mut drawn = 0u64;
-    for (key, _, mark) in cache.shard().iter_hot() {
-        drawn = drawn
-            .wrapping_mul(31)
-            .wrapping_add(*key)
-            .wrapping_add(mark as u64);
-    }
-    for (key, _, mark) in cache.shard().iter_cold() {
-        drawn = drawn
-            .wrapping_mul(37)
-            .wrapping_add(*key)
-            .wrapping_add(mark as u64);
-    }
-    for hash in cache.shard().iter_ghosts() {
-        drawn = drawn.wrapping_mul(41).wrapping_add(hash);
-    }
-    drawn
+/// Draws one more number into many.
+fn drawn(many: u64, number: u64) -> u64 {
+    many.wrapping_mul(31).wrapping_add(number)
 }
 
-/// All that can be seen of a cache.
-fn seen_of(cache: &RationedCache<'_>) -> (usize, u64, u64, u64, u64) {
-    (
-        cache.len(),
-        cache.weight(),
-        cache.hits(),
-        cache.misses(),
-        order_of(cache),
-    )
+/// All that can be seen of a cache: its counts, and the keys and the marks of both rings and the
+/// ghosts in their order, drawn together into one number.
+fn seen_of(cache: &RationedCache<'_>) -> [u64; 5] {
+    let shard = cache.shard();
+    let mut order = shard.iter_hot().len() as u64;
+    for (key, _, mark) in shard.iter_hot() {
+        order = drawn(drawn(order, *key), mark as u64);
+    }
+    for (key, _, mark) in shard.iter_cold() {
+        order = drawn(drawn(order, *key), mark as u64);
+    }
+    for hash in shard.iter_ghosts() {
+        order = drawn(order, hash);
+    }
+    let (len, weight) = (cache.len() as u64, cache.weight());
+    [len, weight, cache.hits(), cache.misses(), order]
 }
 
 /// Inserts new keys up to the first that is refused. Gives that key, and whether the refusal left

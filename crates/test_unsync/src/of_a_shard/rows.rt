@@ -3,6 +3,7 @@ use quick_cache_base::{Refusal, UnitWeighter};
 use quick_cache_shard::{CacheShard, InsertStrategy, NoTouches, Placeholder, Touches};
 use std::alloc::Global;
 use std::hash::Hash;
+use std::process::Abort;
 use test_parts::counting::{Counting, Told};
 use test_parts::thousand::Thousand;
 use test_parts::walks::shows;
@@ -36,35 +37,17 @@ pub(crate) fn empty<K: Eq + Hash, V, T: Touches>(
     )
 }
 
-/// Inserts a pair, and counts what was told.
+/// Inserts these pairs, and counts what was told.
 pub(crate) fn put<T: Touches>(
+    rt: &impl Abort,
     shard: &mut Tested<u64, u64, T>,
     told: &mut Told,
-    key: u64,
-    value: u64,
-) -> bool {
-    let hash = shard.hash(&key);
-    shard
-        .insert(told, hash, key, value, InsertStrategy::Insert)
-        .is_ok()
-}
-
-/// What `get` finds.
-fn got(shard: &mut Tested<u64, u64>, key: u64) -> Option<u64> {
-    let hash = shard.hash(&key);
-    shard.get(hash, &key).copied()
-}
-
-/// Replaces a value, as a use of the item or not.
-pub(crate) fn replaced<T: Touches>(
-    shard: &mut Tested<u64, u64, T>,
-    told: &mut Told,
-    key: u64,
-    value: u64,
-    soft: bool,
-) -> Result<(), (u64, u64, Option<Refusal>)> {
-    let hash = shard.hash(&key);
-    shard.insert(told, hash, key, value, InsertStrategy::Replace { soft })
+    pairs: &[(u64, u64)],
+) {
+    for (key, value) in pairs {
+        let hash = shard.hash(key);
+        expect!(rt; shard.insert(told, hash, *key, *value, InsertStrategy::Insert).is_ok());
+    }
 }
 
 /// What `peek` and `contains` tell.
@@ -79,15 +62,25 @@ pub(crate) fn taken(shard: &mut Tested<u64, u64>, key: u64) -> Option<(u64, u64)
     shard.remove(hash, &key)
 }
 
+/// The hits, the misses and the number of items.
+pub(crate) fn counts(shard: &Tested<u64, u64>) -> [u64; 3] {
+    [shard.hits(), shard.misses(), shard.len() as u64]
+}
+
 #[test]
 fn a_clone_keeps_marks_and_counts(rt: HostRuntime) {
     let mut shard: Tested<u64, u64> = expect_ok!(rt; empty(rt.alloc(), 4));
-    let mut told = Told::default();
-    expect!(rt; put(&mut shard, &mut told, 1, 10));
-    expect_eq!(rt; got(&mut shard, 1), Some(10));
+    put(&rt, &mut shard, &mut Told::default(), &[(1, 10)]);
+    let hash = shard.hash(&1u64);
+    expect_eq!(rt; shard.get(hash, &1).copied(), Some(10));
     let copy = expect_ok!(rt; shard.try_clone());
     expect_eq!(rt; taken(&mut shard, 1), Some((1, 10)));
     expect!(rt; shows(copy.iter_hot(), &[(1, 1)]));
-    expect_eq!(rt; (copy.weight(), copy.capacity(), copy.hits()), (1, 4, 1));
-    expect_eq!(rt; (copy.hot_target(), copy.ghost_limit()), (3, 2));
+    let sizes = [
+        copy.weight(),
+        copy.capacity(),
+        copy.hot_target(),
+        copy.ghost_limit() as u64,
+    ];
+    expect_eq!(rt; (sizes, counts(&copy)), ([1, 4, 3, 2], [1, 0, 1]));
 }

@@ -1,13 +1,13 @@
 //! Calls that spare their caller a step: pairs are put, walked in a loop, and loaded with an answer.
 use quick_cache_unsync::{Cache, LoadError, NotLoaded, Refusal};
 use std::io;
-use test_tools::{expect, expect_eq, expect_ok};
+use test_tools::{expect_eq, expect_ok};
 
 #[test]
 fn pairs_that_are_put_are_met_in_a_loop(rt: HostRuntime) {
     let mut cache: Cache<u64, u64> = expect_ok!(rt; Cache::new(rt.alloc(), 10));
     for key in 0..5 {
-        expect!(rt; cache.put(key, key * 2).is_ok());
+        expect_eq!(rt; cache.put(key, key * 2), Ok(()));
     }
     let mut sum = 0u64;
     for (key, value) in &cache {
@@ -16,19 +16,24 @@ fn pairs_that_are_put_are_met_in_a_loop(rt: HostRuntime) {
     expect_eq!(rt; sum, 30);
 }
 
+/// What a load answers by a loader that gives this.
+fn load(
+    cache: &mut Cache<u64, u64>,
+    key: u64,
+    given: Result<u64, u8>,
+) -> Result<u64, LoadError<u8>> {
+    cache.get_or_load(&key, || given)
+}
+
 #[test]
 fn a_load_answers_its_value_kept_or_not(rt: HostRuntime) {
-    for items in [0, 10] {
-        let mut cache: Cache<u64, u64> = expect_ok!(rt; Cache::new(rt.alloc(), items));
-        for _ in 0..2 {
-            let loaded: Result<u64, LoadError<u8>> = cache.get_or_load(&1, || Ok(7));
-            expect_eq!(rt; loaded, Ok(7));
-        }
-        let failed: Result<u64, LoadError<u8>> = cache.get_or_load(&2, || Err(3));
-        expect_eq!(rt; failed, Err(LoadError::Failed(3)));
-        let kept = if items == 0 { 0 } else { 1 };
-        expect_eq!(rt; cache.len(), kept);
-        expect_eq!(rt; (cache.hits(), cache.misses()), (kept as u64, 3 - kept as u64));
+    for (items, kept) in [(0, 0), (10, 1)] {
+        let mut cache: Cache<u64, u64> = expect_ok!(rt; Cache::new(rt.alloc(), items as usize));
+        let loaded = [load(&mut cache, 1, Ok(7)), load(&mut cache, 1, Ok(7))];
+        expect_eq!(rt; loaded, [Ok(7), Ok(7)]);
+        expect_eq!(rt; load(&mut cache, 2, Err(3)), Err(LoadError::Failed(3)));
+        let counts = [cache.len() as u64, cache.hits(), cache.misses()];
+        expect_eq!(rt; counts, [kept, kept, 3 - kept]);
     }
 }
 

@@ -1,20 +1,9 @@
 //! What a cache asks of its allocator: nothing where a call takes no memory, and not much more than
 //! it needs.
+use crate::asked::{Ask, Said, answers, inserts};
 use bumpalo::Bump;
-use quick_cache_base::{DefaultHashBuilder, UnitWeighter};
-use quick_cache_unsync::{Cache, DefaultLifecycle};
-use std::alloc::Global;
+use quick_cache_unsync::Cache;
 use test_tools::{Rationed, expect, expect_eq, expect_ok};
-
-/// A cache whose allocator is counted.
-type CountedCache<A> = Cache<
-    u64,
-    u64,
-    UnitWeighter,
-    DefaultHashBuilder,
-    DefaultLifecycle<u64, u64>,
-    A,
->;
 
 /// A number of blocks that no test uses up.
 const BLOCKS: u64 = 1000000;
@@ -22,22 +11,26 @@ const BLOCKS: u64 = 1000000;
 #[test]
 fn what_takes_no_memory_asks_for_none(rt: HostRuntime) {
     let ration = Rationed::new(rt.alloc(), BLOCKS);
-    let mut cache: CountedCache<&Rationed<Global>> = expect_ok!(rt; Cache::new(&ration, 100));
-    for key in 0..100 {
-        expect_ok!(rt; cache.insert(key, key));
-    }
+    let mut cache = expect_ok!(rt; Cache::new(&ration, 100));
+    inserts(&rt, &mut cache, 0..100);
     expect!(rt; ration.left() < BLOCKS);
     ration.allow(BLOCKS);
     for key in 0..100 {
-        expect_eq!(rt; cache.insert(key, 7), Ok(()));
-        expect_eq!(rt; cache.get(&key).copied(), Some(7));
-        expect_eq!(rt; cache.get(&1000).copied(), None);
-        expect_eq!(rt; cache.peek(&key).copied(), Some(7));
-        expect!(rt; cache.contains_key(&key));
+        let row = &[
+            (Ask::Insert(key, 7), Said::Done),
+            (Ask::Get(key), Said::Value(7)),
+            (Ask::Get(1000), Said::Nothing),
+            (Ask::Peek(key), Said::Value(7)),
+            (Ask::Contains(key), Said::Is(true)),
+        ];
+        answers(&rt, &mut cache, row);
     }
     for key in 0..100 {
-        expect_eq!(rt; cache.remove(&key), Some((key, 7)));
-        expect_eq!(rt; cache.remove(&key), None);
+        let row = &[
+            (Ask::Remove(key), Said::Pair(key, 7)),
+            (Ask::Remove(key), Said::Nothing),
+        ];
+        answers(&rt, &mut cache, row);
     }
     expect_eq!(rt; ration.left(), BLOCKS);
 }
@@ -45,14 +38,10 @@ fn what_takes_no_memory_asks_for_none(rt: HostRuntime) {
 #[test]
 fn new_pairs_take_the_room_of_those_that_left(rt: HostRuntime) {
     let ration = Rationed::new(rt.alloc(), BLOCKS);
-    let mut cache: CountedCache<&Rationed<Global>> = expect_ok!(rt; Cache::new(&ration, 100));
-    for key in 0..1000 {
-        expect_ok!(rt; cache.insert(key, key));
-    }
+    let mut cache = expect_ok!(rt; Cache::new(&ration, 100));
+    inserts(&rt, &mut cache, 0..1000);
     ration.allow(0);
-    for key in 1000..2000 {
-        expect_eq!(rt; cache.insert(key, key), Ok(()));
-    }
+    inserts(&rt, &mut cache, 1000..2000);
     expect_eq!(rt; cache.len(), 100);
 }
 
@@ -66,10 +55,10 @@ const ENTRY: usize = 64;
 fn a_growth_asks_for_at_most_four_times_its_need(rt: HostRuntime) {
     let arena = expect_ok!(rt; Bump::try_with_capacity(rt.alloc(), ARENA));
     let first = arena.chunk_capacity();
-    let mut cache: CountedCache<&Bump<Global>> = expect_ok!(rt; Cache::new(&arena, 10000));
+    let mut cache = expect_ok!(rt; Cache::new(&arena, 10000));
     for key in 0..10000 {
         let before = arena.chunk_capacity();
-        expect_ok!(rt; cache.insert(key, key));
+        inserts(&rt, &mut cache, key..key + 1);
         let asked = before.saturating_sub(arena.chunk_capacity());
         let needed = cache.len().saturating_add(4).saturating_mul(ENTRY);
         let is_modest = asked <= needed.saturating_mul(4);
