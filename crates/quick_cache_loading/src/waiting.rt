@@ -13,4 +13,4 @@ pub use place::Place;
 pub use share::Share;
 pub use state::State;
 pub use tasks::{Slot, Tasks};
-pub use waited::Waited;
+pub use waited::{Waited, Wants};

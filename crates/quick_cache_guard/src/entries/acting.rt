@@ -12,6 +12,7 @@ use crate::entries::entering::{entry_of, join_there, share_of_new};
 use crate::entries::shard::EntryShard;
 use crate::{EntryResult, PlaceholderGuard, Waiting};
 use quick_cache_loading::sharing::Turns;
+use quick_cache_loading::waiting::Wants;
 use quick_cache_model::{EntryAction, EntryOrPlaceholder, Lifecycle, ToKey};
 use std::alloc::Allocator;
 use std::hash::Hash;
@@ -67,7 +68,8 @@ pub fn entry<
     for _ in rt.forever() {
         match come(rt, shard, query, &mut held, turns.is_over()) {
             Ok(waiting) => {
-                if let Some(answer) = entry_of(wait_at(rt, shard, query, waiting, turns)) {
+                let told = wait_at(rt, shard, query, waiting, Wants::End, turns);
+                if let Some(answer) = entry_of(told) {
                     return answer;
                 }
             }

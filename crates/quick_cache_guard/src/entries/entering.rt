@@ -6,7 +6,7 @@ ghost use Rattle.quick_cache_guard.specs.Entries.{IfAnswered, IfGivenBack, IfGua
 use crate::coming::answer;
 use crate::{EntryResult, GuardResult, LoadingShard, PlaceholderGuard, Waiting};
 use quick_cache_loading::sharing::{Placeholder, SharedPlaceholder};
-use quick_cache_loading::waiting::{Share, Waited};
+use quick_cache_loading::waiting::{Share, Waited, Wants};
 use quick_cache_model::{Equivalent, Lifecycle, Refusal};
 use std::alloc::Allocator;
 use std::hash::Hash;
@@ -50,7 +50,7 @@ pub fn join_there<
     let Some(placeholder) = shared.placeholder() else {
         return Err(Some(EntryResult::Refused(Refusal::Memory)));
     };
-    let entered = placeholder.enter_unfilled(rt, &mut *locked, query, is_over);
+    let entered = placeholder.enter(rt, &mut *locked, query, Wants::End, is_over);
     drop(locked);
     match entered {
         Ok(place) => Ok(Waiting {
@@ -97,7 +97,7 @@ pub fn share_of_new<
     ensures share { IfSome result (λ given. given.1 ≡ (arc_value given.0).ticket) }
 {
     let placeholder = shared.placeholder()?;
-    match placeholder.enter_unfilled(rt, locked, query, true) {
+    match placeholder.enter(rt, locked, query, Wants::End, true) {
         Err(Waited::Guard(share)) => Some((placeholder, share)),
         Err(Waited::Value(_)) => None,
         Err(Waited::Timeout) => None,

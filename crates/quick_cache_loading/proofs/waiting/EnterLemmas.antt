@@ -9,8 +9,9 @@ use Rattle.quick_cache_loading.specs.LoadingLaws.{given_by, shown_by}
 use Rattle.quick_cache_loading.specs.declared.protocol.events.Event.{Event}
 use Rattle.quick_cache_loading.specs.declared.protocol.events.Answer.{Answer}
 use Rattle.quick_cache_loading.specs.declared.waiting.waited.Waited.{Waited}
+use Rattle.quick_cache_loading.specs.declared.waiting.waited.Wants.{Wants}
 use Rattle.quick_cache_loading.specs.Entering.{Enters, TellsNewcomer, TellsOnce}
-use Rattle.quick_cache_loading.specs.Waiters.{IsGuard, IsTold, by_number}
+use Rattle.quick_cache_loading.specs.Waiters.{IsGuard, IsTold, IsWanted, by_number, has_ended}
 use Rattle.quick_cache_loading.specs.Waiting.{has, without_waiter}
 use Rattle.quick_cache_loading.specs.declared.waiting.place.Place.{Place}
 
@@ -120,7 +121,7 @@ module _ {V : Type 0} (shows : V → V → Type 0) (stands : Bool) (n : ℕ) whe
   looked-unshown (Filled v) old a new unfilled step = absurd (true≢false unfilled)
   looked-unshown GivenUp old a new unfilled step = ap shown_by step.0
 
-  pub Enters-unshown : (is_over : Bool) (old : CoreState V) (told : Result ℕ (Waited V))
+  Enters-unshown : (is_over : Bool) (old : CoreState V) (told : Result ℕ (Waited V))
       (new : CoreState V) → is_filled old.life ≡ false → Enters shows stands n is_over old told new
       → ShowsNone told
   Enters-unshown _ old _ _ unfilled (Enters.begins share new step) = tt
@@ -133,7 +134,7 @@ module _ {V : Type 0} (shows : V → V → Type 0) (stands : Bool) (n : ℕ) whe
   Enters-unshown _ old _ _ unfilled (Enters.all_spent spent over create) = tt
 
 -- so what one is told is no value
-pub told-unshown : {V : Type 0} (P : V → Type 0) (ticket : ℕ) (told : Result Place (Waited V))
+told-unshown : {V : Type 0} (P : V → Type 0) (ticket : ℕ) (told : Result Place (Waited V))
     → ShowsNone (by_number told) → IfErr told (IsTold ticket P)
     → IfErr told (IsTold ticket (λ v. ⊥))
 told-unshown P ticket (Ok place) none told = tt
@@ -142,3 +143,14 @@ told-unshown P ticket (Err (Waited.Guard share)) none told = told
 told-unshown P ticket (Err (Waited.Refused why)) none told = told
 told-unshown P ticket (Err Waited.Timeout) none told = tt
 told-unshown P ticket (Err Waited.Again) none told = tt
+
+-- nor is one told of a value that comes and wants none
+pub came-wanted : {V : Type 0} (shows : V → V → Type 0) (stands : Bool) (P : V → Type 0)
+    (ticket n : ℕ) (is_over : Bool) (old : CoreState V) (wants : Wants)
+    (told : Result Place (Waited V)) (new : CoreState V) → has_ended wants old.life ≡ false
+    → Enters shows stands n is_over old (by_number told) new
+    → IfErr told (IsTold ticket P) → IfErr told (IsTold ticket (IsWanted wants P))
+came-wanted shows stands P ticket n is_over old Wants.Value told new goes_on enters is = is
+came-wanted shows stands P ticket n is_over old Wants.End told new goes_on enters is =
+    told-unshown P ticket told
+    (Enters-unshown shows stands n is_over old (by_number told) new goes_on enters) is

@@ -3,13 +3,13 @@ ghost use Rattle.std.specs.Prelude.{◌≡◌, ◌⊎◌, true, false, IfSome, I
 ghost use Rattle.std.specs.Int.NonZero.{non_zero_u32_get};
 ghost use Rattle.futures.specs.Task.{Covers, Keeps};
 ghost use Rattle.quick_cache_loading.specs.Fitting.{FitsIfClonesDo};
-ghost use Rattle.quick_cache_loading.specs.Waiters.{IsTold, is_timeout};
+ghost use Rattle.quick_cache_loading.specs.Waiters.{IsTold, IsWanted, is_refused, is_timeout};
 ghost use Rattle.quick_cache_loading.specs.Turns.{IsLater, none_left};
 
 use crate::sharing::shard::LoadingShard;
 use crate::sharing::shared::SharedPlaceholder;
 use crate::sharing::turns::Turns;
-use crate::waiting::{Filled, Place, Share, State, Waited};
+use crate::waiting::{Filled, Place, Share, State, Waited, Wants};
 use futures::task::{Context, Source};
 use quick_cache_model::{Equivalent, Lifecycle, Token};
 use std::alloc::{Allocator, Global};
@@ -154,39 +154,19 @@ impl<K: Eq + Hash + Drop, V: Clone, L: Lifecycle<K, V>, A: Allocator> Placeholde
         rt: &R,
         _locked: &mut S,
         query: &Q,
+        wants: Wants,
         is_over: bool,
     ) -> Result<Place, Waited<V>>
         ensures place { IfOk result (λ place. place.ticket ≡ self.now.ticket) }
         ensures shard { _locked.new ≡ _locked.old }
         ensures over { is_over ≡ true → IsErr result }
         ensures timely { is_over ≡ false → IfErr result (λ told. is_timeout told ≡ false) }
-        ensures told { IfErr result (IsTold self.now.ticket
-            (FitsIfClonesDo L.fits V.is_clone (Q.equivalent query.now))) }
+        // One who wants no value is shown none, and so asks for no clone of it.
+        ensures told { IfErr result (IsTold self.now.ticket (IsWanted wants
+            (FitsIfClonesDo L.fits V.is_clone (Q.equivalent query.now)))) }
     {
         let mut state = self.state.lock(rt);
-        if state.ticket() != self.ticket {
-            return Err(Waited::Again);
-        }
-        state.enter(query, is_over)
-    }
-
-    /// As `enter`, for one who looks in the shard again where the value has come: it is not cloned.
-    pub fn enter_unfilled<S: LoadingShard<K, V, L, A>, Q: Equivalent<K>, R: Wait>(
-        &self,
-        rt: &R,
-        _locked: &mut S,
-        query: &Q,
-        is_over: bool,
-    ) -> Result<Place, Waited<V>>
-        ensures place { IfOk result (λ place. place.ticket ≡ self.now.ticket) }
-        ensures shard { _locked.new ≡ _locked.old }
-        ensures over { is_over ≡ true → IsErr result }
-        ensures timely { is_over ≡ false → IfErr result (λ told. is_timeout told ≡ false) }
-        // It is shown no value, and so asks for no clone of one.
-        ensures told { IfErr result (IsTold self.now.ticket (λ value. ⊥)) }
-    {
-        let mut state = self.state.lock(rt);
-        if state.ticket() != self.ticket || state.is_filled() {
+        if state.ticket() != self.ticket || state.has_ended(wants) {
             return Err(Waited::Again);
         }
         state.enter(query, is_over)
@@ -203,29 +183,42 @@ impl<K: Eq + Hash + Drop, V: Clone, L: Lifecycle<K, V>, A: Allocator> Placeholde
         rt: &R,
         place: Place,
         query: &Q,
+        wants: Wants,
         cx: &mut Context<'_>,
     ) -> Result<Waited<V>, Place>
         ensures place { IfErr result (λ kept. kept ≡ place) }
         ensures timely { IfOk result (λ told. is_timeout told ≡ false) }
-        ensures told { IfOk result (IsTold place.ticket
-            (FitsIfClonesDo L.fits V.is_clone (Q.equivalent query.now))) }
+        ensures told { IfOk result (IsTold place.ticket (IsWanted wants
+            (FitsIfClonesDo L.fits V.is_clone (Q.equivalent query.now)))) }
+        // One who wants no value asks for no memory, and is not refused.
+        ensures refused { wants ≡ Wants.End → IfOk result (λ told. is_refused told ≡ false) }
         ensures registered { OnErr result (Covers cx.new (λ s. s ≡ self.now.source.id)) }
         ensures kept { Keeps cx.old cx.new }
     {
-        self.state.lock(rt).poll(place, query, &self.source, cx)
+        self.state
+            .lock(rt)
+            .poll(place, query, wants, &self.source, cx)
     }
 
     /// Waits until the guard or the value comes to a waiter. It takes the state's lock, and lets it
     /// go while it sleeps.
-    pub fn wait<Q: Equivalent<K>, R: Wait>(&self, rt: &R, place: Place, query: &Q) -> Waited<V>
+    pub fn wait<Q: Equivalent<K>, R: Wait>(
+        &self,
+        rt: &R,
+        place: Place,
+        query: &Q,
+        wants: Wants,
+    ) -> Waited<V>
         ensures timely { is_timeout result ≡ false }
-        ensures told { IsTold place.ticket
-            (FitsIfClonesDo L.fits V.is_clone (Q.equivalent query.now)) result }
+        ensures told { IsTold place.ticket (IsWanted wants
+            (FitsIfClonesDo L.fits V.is_clone (Q.equivalent query.now))) result }
+        // One who wants no value asks for no memory, and is not refused.
+        ensures refused { wants ≡ Wants.End → is_refused result ≡ false }
     {
         let mut place = place;
         for _ in rt.forever() {
             let mut state = self.state.lock(rt);
-            match state.look(place, query, false) {
+            match state.look(place, query, wants, false) {
                 Ok(told) => return told,
                 Err(kept) => place = kept,
             }
@@ -240,21 +233,24 @@ impl<K: Eq + Hash + Drop, V: Clone, L: Lifecycle<K, V>, A: Allocator> Placeholde
         rt: &R,
         place: Place,
         query: &Q,
+        wants: Wants,
         turns: &mut Turns,
     ) -> Waited<V>
         // Its time is over only where no turn is left.
         ensures timely { is_timeout result ≡ true → none_left turns.new.limit turns.new.ended ≡ true }
         ensures counts { IsLater turns.old turns.new }
-        ensures told { IsTold place.ticket
-            (FitsIfClonesDo L.fits V.is_clone (Q.equivalent query.now)) result }
+        ensures told { IsTold place.ticket (IsWanted wants
+            (FitsIfClonesDo L.fits V.is_clone (Q.equivalent query.now))) result }
+        // One who wants no value asks for no memory, and is not refused.
+        ensures refused { wants ≡ Wants.End → is_refused result ≡ false }
     {
         if !turns.is_counted() {
-            return self.wait(rt, place, query);
+            return self.wait(rt, place, query, wants);
         }
         let mut place = place;
         for _ in rt.forever() {
             let mut state = self.state.lock(rt);
-            match state.look(place, query, turns.is_over()) {
+            match state.look(place, query, wants, turns.is_over()) {
                 Ok(told) => return told,
                 Err(kept) => place = kept,
             }
