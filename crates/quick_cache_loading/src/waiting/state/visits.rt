@@ -160,6 +160,8 @@ impl<K: Eq + Hash + Drop, V: Clone, L: Lifecycle<K, V>, A: Allocator> State<K, V
             (told_or_none result) self.new.core }
         ensures ended { place.ticket ≡ self.old.ticket → has_ended wants self.old.core.life ≡ true
             → (result ≡ Ok Waited.Again) × (self.new ≡ self.old) }
+        ensures elsewhere { place.ticket ≢ self.old.ticket
+            → (result ≡ Ok Waited.Again) × (self.new ≡ self.old) }
         ensures place { IfErr result (λ kept. kept ≡ place) }
         ensures timely { IfOk result (λ told. is_timeout told ≡ false) }
         ensures told { IfOk result (IsTold place.ticket (IsWanted wants
@@ -206,8 +208,7 @@ impl<K: Eq + Hash + Drop, V: Clone, L: Lifecycle<K, V>, A: Allocator> State<K, V
           next = self.new.next;
         } }
     {
-        let (_, share) = self.create();
-        if let Some(share) = share {
+        if let Some(share) = self.create() {
             return Err(Waited::Guard(share));
         }
         if is_over {
