@@ -1,10 +1,11 @@
 //! One who comes to a shard for the value of a key: it waits, or is told at once.
-ghost use Rattle.std.specs.Prelude.{◌≡◌, ⊤, true, false, IfOk, IfErr, IfSome, IsErr};
+ghost use Rattle.std.specs.Prelude.{◌≡◌, ⊤, true, false, Some, IfOk, IfErr, IfSome, IsErr};
 ghost use Rattle.std.specs.Arc.{arc_value};
 ghost use Rattle.quick_cache_model.specs.Hashing.{StandsForGiven};
 ghost use Rattle.quick_cache_loading.specs.Waiters.{IsTold, IsWanted};
 ghost use Rattle.quick_cache_loading.specs.Fitting.{FitsIfClonesDo};
-ghost use Rattle.quick_cache_guard.specs.Answers.{IsAnswered, answer_of, is_timeout, output_of};
+ghost use Rattle.quick_cache_loading.specs.FromState.{FromState, LooksAt};
+ghost use Rattle.quick_cache_guard.specs.Answers.{CameTo, IsAnswered, IsToldSo, answer_of, is_timeout, output_of};
 ghost use Rattle.quick_cache_loading.specs.Turns.{IsLater, none_left};
 
 use crate::guard::PlaceholderGuard;
@@ -87,6 +88,9 @@ pub fn come<
     ensures keyed { IfOk result (λ waiting. Q.to_key_gives query.now waiting.key) }
     ensures answers { IfErr result (λ told. IfSome told (IsAnswered
         (FitsIfClonesDo L.fits V.is_clone (Q.equivalent query.now)) (Q.to_key_gives query.now))) }
+    // It looks again, or is late, only where a placeholder's state told it so.
+    ensures cause { IfErr result (IsToldSo
+        (CameTo V.is_clone (Q.equivalent query.now) Wants.Value is_over)) }
     ensures over { is_over ≡ true → IsErr result }
     ensures timely { is_over ≡ false
         → IfErr result (λ told. IfSome told (λ answer. is_timeout answer ≡ false)) }
@@ -191,6 +195,10 @@ pub fn wait_at<
     ensures answers { IfSome result (IsAnswered
         (IsWanted wants (FitsIfClonesDo L.fits V.is_clone (Q.equivalent query.now)))
         (Q.to_key_gives query.now)) }
+    // It answers as some state told it.
+    ensures told { (told : Waited V) × FromState (LooksAt V.is_clone (Q.equivalent query.now) wants
+        waiting.place (none_left turns.new.limit turns.new.ended) (Some told))
+        × (result ≡ answer_of waiting.key told) }
     // Its time is over only where no turn is left.
     ensures timely { IfSome result (λ answer. is_timeout answer ≡ true
         → none_left turns.new.limit turns.new.ended ≡ true) }

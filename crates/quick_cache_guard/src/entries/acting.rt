@@ -5,7 +5,8 @@ ghost use Rattle.quick_cache_loading.specs.Fitting.{FitsQuery};
 ghost use Rattle.quick_cache_loading.specs.Turns.{IsLater, none_left};
 ghost use Rattle.quick_cache_guard.specs.Acts.{LeavesFit, LeavesHeld, LeavesOnce, MayAct, MayTell};
 ghost use Rattle.quick_cache_guard.specs.Entries.{AnswersAsChosen, IfAnswered, IfGivenBack, IfGuarded, IfRetained, IfUncalled};
-ghost use Rattle.quick_cache_guard.specs.Entries.{IsRefusedAsLoad, is_late};
+ghost use Rattle.quick_cache_guard.specs.Entries.{IsEntryToldSo, IsRefusedAsLoad, is_late};
+ghost use Rattle.quick_cache_guard.specs.Answers.{CameTo};
 
 use crate::coming::wait_at;
 use crate::entries::entering::{entry_of, join_there, share_of_new};
@@ -127,6 +128,9 @@ pub fn come<
         (LeavesHeld F.FnOnce callback.old) L.fits (Q.equivalent query.now)
         (callback.new ≡ callback.old) answer) }
     ensures refused { IfAnswered result IsRefusedAsLoad }
+    // It looks again, or is late, only where a placeholder's state told it so.
+    ensures cause { IsEntryToldSo (CameTo V.is_clone (Q.equivalent query.now) Wants.End is_over)
+        result }
     ensures timely { is_over ≡ false → IfAnswered result (λ answer. is_late answer ≡ false) }
 {
     // The copy of the key is made before the shard changes.

@@ -1,12 +1,12 @@
 //! The entry call, for a task.
-ghost use Rattle.std.specs.Prelude.{◌≡◌, true, false, Some, IfSome, IsSome, IsSomeAnd};
+ghost use Rattle.std.specs.Prelude.{◌≡◌, ◌⊎◌, true, false, Some, IfSome, IfNone, IsSome, IsSomeAnd};
 ghost use Rattle.quick_cache_model.specs.Hashing.{StandsForGiven};
 ghost use Rattle.futures.specs.Poll.{IfReady, OnPending};
 ghost use Rattle.quick_cache_loading.specs.Fitting.{FitsQuery};
 ghost use Rattle.quick_cache_guard.specs.Acts.{LeavesFit, LeavesHeld, MayAct};
 ghost use Rattle.quick_cache_guard.specs.Entries.{AnswersAsChosen, IsRefusedAsLoad};
 ghost use Rattle.quick_cache_guard.specs.Entering.{GivesEntry};
-ghost use Rattle.quick_cache_guard.specs.Futures.{AnswersOnce, IfWaits, IsSource, Registers, has_answered, source_of};
+ghost use Rattle.quick_cache_guard.specs.Futures.{AnswersOnce, IfWaits, IsSource, Registers, WasTold, has_answered, source_of};
 ghost use Rattle.std.specs.Arc.{arc_value};
 
 use crate::coming::leave;
@@ -159,6 +159,9 @@ impl<
             result self.new.is_finished }
         ensures registers { Registers (IsSome self.new.source) (IsSource self.new.source) result
             cx.old cx.new }
+        // One that stands nowhere was told to look again.
+        ensures again { OnPending result (IsSome self.new.source
+            ⊎ WasTold V.is_clone (Q.equivalent self.old.query) Wants.End Waited.Again) }
         ensures query { self.new.query ≡ self.old.query }
         ensures uncalled { OnPending result (self.new.callback ≡ self.old.callback) }
     {
@@ -191,6 +194,10 @@ impl<
         ensures refused { IfReady result (λ told. IfSome told IsRefusedAsLoad) }
         ensures taken { IfReady result (λ _. self.new.is_finished ≡ true) }
         ensures goes_on { OnPending result (self.new.is_finished ≡ false) }
+        ensures waits { OnPending result (IsSome self.new.source) }
+        // It looks again only where it was told to.
+        ensures again { IfReady result (λ answer. IfNone answer
+            (WasTold V.is_clone (Q.equivalent self.old.query) Wants.End Waited.Again)) }
         ensures registers { Registers (IsSome self.new.source) (IsSource self.new.source) result
             cx.old cx.new }
         ensures query { self.new.query ≡ self.old.query }
@@ -211,12 +218,12 @@ impl<
                 Poll::Pending
             }
             Ok(Waited::Guard(share)) => Poll::Ready(Some(EntryResult::Vacant(
-                PlaceholderGuard::start_loading(self.rt, self.shard, placeholder, key, share),
+                PlaceholderGuard::by_share(self.rt, self.shard, placeholder, key, share),
             ))),
             Ok(Waited::Again) => Poll::Ready(None),
-            Ok(Waited::Value(_)) => Poll::Ready(None),
-            Ok(Waited::Refused(_)) => Poll::Ready(None),
-            Ok(Waited::Timeout) => Poll::Ready(None),
+            Ok(Waited::Value(_)) => unreachable!(),
+            Ok(Waited::Refused(_)) => unreachable!(),
+            Ok(Waited::Timeout) => unreachable!(),
         }
     }
 
@@ -238,6 +245,9 @@ impl<
             result self.new.is_finished }
         ensures registers { Registers (IsSome self.new.source) (IsSource self.new.source) result
             cx.old cx.new }
+        // One that stands nowhere was told to look again.
+        ensures again { OnPending result (IsSome self.new.source
+            ⊎ WasTold V.is_clone (Q.equivalent self.old.query) Wants.End Waited.Again) }
         ensures query { self.new.query ≡ self.old.query }
         ensures uncalled { OnPending result (self.new.callback ≡ self.old.callback) }
     {
@@ -259,6 +269,7 @@ impl<
     ) -> Poll<EntryResult<T, K, V, PlaceholderGuard<'a, K, V, L, S, R, A>>>
         requires held { IsSome self.old.callback }
         requires taken { self.old.is_finished ≡ true }
+        requires cause { WasTold V.is_clone (Q.equivalent self.old.query) Wants.End Waited.Again }
         ensures again { IfReady result (λ _. ⊥) }
         ensures goes_on { self.new.is_finished ≡ false }
         ensures registers { Registers (IsSome self.new.source) (IsSource self.new.source) result
