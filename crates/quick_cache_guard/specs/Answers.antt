@@ -1,8 +1,10 @@
 -- What one who asks for a value is answered.
-use Rattle.std.specs.Prelude.{⊤, Bool, true, false, Option, Some, None, Result, Ok, Err}
+use Rattle.std.specs.Prelude.{⊤, ℕ, Bool, true, false, Option, Some, None, Result, Ok, Err}
 use Rattle.quick_cache_model.specs.declared.refusal.Refusal.{Refusal}
 pub use Rattle.quick_cache_loading.specs.Waiters.{IsLoadRefusal}
+use Rattle.quick_cache_loading.specs.FromState.{ComesTo, FromState}
 use Rattle.quick_cache_loading.specs.declared.waiting.waited.Waited.{Waited}
+use Rattle.quick_cache_loading.specs.declared.waiting.waited.Wants.{Wants}
 use Rattle.quick_cache_guard.specs.declared.results.GuardResult.{GuardResult}
 
 -- where the answer is a value, this is true of it
@@ -22,6 +24,18 @@ answer_of key (Waited.Guard share) = Some (GuardResult.Guard key)
 answer_of key (Waited.Refused refusal) = Some (GuardResult.Refused refusal)
 answer_of key Waited.Timeout = Some GuardResult.Timeout
 answer_of key Waited.Again = None
+
+-- one came to the state of some placeholder, and was told this
+abbrev pub CameTo : {K V : Type 0} → (shows : V → V → Type 0) → (stands_for : K → Bool) → Wants
+    → (is_over : Bool) → Waited V → Type 0
+CameTo shows stands_for wants is_over told =
+    (ticket : ℕ) × FromState (ComesTo shows stands_for wants ticket is_over (Err told))
+
+-- one looks again, or is late, only where it was told so
+abbrev pub IsToldSo : {V G : Type 0} → (Waited V → Type 0) → Option (GuardResult V G) → Type 0
+IsToldSo WasTold None = WasTold Waited.Again
+IsToldSo WasTold (Some GuardResult.Timeout) = WasTold Waited.Timeout
+IsToldSo WasTold (Some _) = ⊤
 
 -- what a future that waits with no limit gives, unless it has to look again
 abbrev pub output_of : {V G : Type 0} → Option (GuardResult V G)

@@ -1,6 +1,7 @@
 -- What an entry call answers.
 use Rattle.std.specs.Prelude.{◌⊎◌, ⊤, Bool, true, false, Option, Some, None, Result, Ok, Err}
 use Rattle.quick_cache_loading.specs.Waiters.{IsLoadRefusal}
+use Rattle.quick_cache_loading.specs.declared.waiting.waited.Waited.{Waited}
 use Rattle.quick_cache_guard.specs.declared.results.GuardResult.{GuardResult}
 use Rattle.quick_cache_guard.specs.declared.results.EntryResult.{EntryResult}
 use Rattle.quick_cache_model.specs.declared.calls.entry.EntryAction.{EntryAction}
@@ -47,6 +48,14 @@ abbrev pub IfAnswered : {W E : Type 0} → Result W (Option E) → (E → Type 0
 IfAnswered (Err (Some answer)) P = P answer
 IfAnswered (Err None) P = ⊤
 IfAnswered (Ok waiting) P = ⊤
+
+-- one looks again, or is late, only where it was told so
+abbrev pub IsEntryToldSo : {W T K V G : Type 0} → (Waited V → Type 0)
+    → Result W (Option (EntryResult T K V G)) → Type 0
+IsEntryToldSo WasTold (Ok waiting) = ⊤
+IsEntryToldSo WasTold (Err None) = WasTold Waited.Again
+IsEntryToldSo WasTold (Err (Some EntryResult.Timeout)) = WasTold Waited.Timeout
+IsEntryToldSo WasTold (Err (Some _)) = ⊤
 
 -- where the callback was not called, this is true: where one waits, looks again, is too late, or gets
 -- the right to load a key that has no entry

@@ -1,16 +1,17 @@
 //! One who comes to a shard for the value of a key: it waits, or is told at once.
-ghost use Rattle.std.specs.Prelude.{◌≡◌, ⊤, true, false, IfOk, IfErr, IfSome, IsErr};
+ghost use Rattle.std.specs.Prelude.{◌≡◌, ⊤, true, false, Some, IfOk, IfErr, IfSome, IsErr};
 ghost use Rattle.std.specs.Arc.{arc_value};
 ghost use Rattle.quick_cache_model.specs.Hashing.{StandsForGiven};
-ghost use Rattle.quick_cache_loading.specs.Waiters.{IsTold};
+ghost use Rattle.quick_cache_loading.specs.Waiters.{IsTold, IsWanted};
 ghost use Rattle.quick_cache_loading.specs.Fitting.{FitsIfClonesDo};
-ghost use Rattle.quick_cache_guard.specs.Answers.{IsAnswered, answer_of, is_timeout, output_of};
+ghost use Rattle.quick_cache_loading.specs.FromState.{FromState, LooksAt};
+ghost use Rattle.quick_cache_guard.specs.Answers.{CameTo, IsAnswered, IsToldSo, answer_of, is_timeout, output_of};
 ghost use Rattle.quick_cache_loading.specs.Turns.{IsLater, none_left};
 
 use crate::guard::PlaceholderGuard;
 use crate::results::GuardResult;
 use quick_cache_loading::sharing::{Begun, LoadingShard, Placeholder, Turns};
-use quick_cache_loading::waiting::{Place, Waited};
+use quick_cache_loading::waiting::{Place, Waited, Wants};
 use quick_cache_model::{Lifecycle, Refusal, ToKey};
 use std::alloc::Allocator;
 use std::hash::Hash;
@@ -87,6 +88,9 @@ pub fn come<
     ensures keyed { IfOk result (λ waiting. Q.to_key_gives query.now waiting.key) }
     ensures answers { IfErr result (λ told. IfSome told (IsAnswered
         (FitsIfClonesDo L.fits V.is_clone (Q.equivalent query.now)) (Q.to_key_gives query.now))) }
+    // It looks again, or is late, only where a placeholder's state told it so.
+    ensures cause { IfErr result (IsToldSo
+        (CameTo V.is_clone (Q.equivalent query.now) Wants.Value is_over)) }
     ensures over { is_over ≡ true → IsErr result }
     ensures timely { is_over ≡ false
         → IfErr result (λ told. IfSome told (λ answer. is_timeout answer ≡ false)) }
@@ -104,7 +108,7 @@ pub fn come<
     let Some(placeholder) = shared.placeholder() else {
         return Err(Some(GuardResult::Refused(Refusal::Memory)));
     };
-    let entered = placeholder.enter(rt, &mut *locked, query, is_over);
+    let entered = placeholder.enter(rt, &mut *locked, query, Wants::Value, is_over);
     drop(locked);
     match entered {
         Ok(place) => Ok(Waiting {
@@ -144,14 +148,32 @@ pub fn come_and_wait<
                 key,
             },
         ) => {
-            let told = placeholder.wait(rt, place, query);
+            let told = placeholder.wait(rt, place, query, Wants::Value);
             answer(rt, shard, placeholder, key, told)
         }
         Err(told) => told,
     }
 }
 
+/// One who waited as a task goes away. It takes the write lock of the shard.
+pub fn leave<
+    K: Eq + Hash + Drop,
+    V: Clone,
+    L: Lifecycle<K, V>,
+    S: LoadingShard<K, V, L, A>,
+    R: Wait,
+    A: Allocator,
+>(rt: &R, shard: &RwLock<S>, waiting: Waiting<K, V, L, A>) {
+    let Waiting {
+        placeholder,
+        place,
+        key: _key,
+    } = waiting;
+    placeholder.withdraw(rt, &mut *shard.write(rt), place);
+}
+
 /// Waits at its place, for so many turns at most. Nothing is answered where one has to look again.
+/// One who wants no value is answered none.
 pub fn wait_at<
     'a,
     K: Eq + Hash + Drop,
@@ -166,11 +188,17 @@ pub fn wait_at<
     shard: &'a RwLock<S>,
     query: &Q,
     waiting: Waiting<K, V, L, A>,
+    wants: Wants,
     turns: &mut Turns,
 ) -> Option<GuardResult<V, PlaceholderGuard<'a, K, V, L, S, R, A>>>
     requires keyed { Q.to_key_gives query.now waiting.key }
     ensures answers { IfSome result (IsAnswered
-        (FitsIfClonesDo L.fits V.is_clone (Q.equivalent query.now)) (Q.to_key_gives query.now)) }
+        (IsWanted wants (FitsIfClonesDo L.fits V.is_clone (Q.equivalent query.now)))
+        (Q.to_key_gives query.now)) }
+    // It answers as some state told it.
+    ensures told { (told : Waited V) × FromState (LooksAt V.is_clone (Q.equivalent query.now) wants
+        waiting.place (none_left turns.new.limit turns.new.ended) (Some told))
+        × (result ≡ answer_of waiting.key told) }
     // Its time is over only where no turn is left.
     ensures timely { IfSome result (λ answer. is_timeout answer ≡ true
         → none_left turns.new.limit turns.new.ended ≡ true) }
@@ -181,7 +209,7 @@ pub fn wait_at<
         place,
         key,
     } = waiting;
-    let told = placeholder.wait_within(rt, place, query, turns);
+    let told = placeholder.wait_within(rt, place, query, wants, turns);
     answer(rt, shard, placeholder, key, told)
 }
 

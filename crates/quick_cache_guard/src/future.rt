@@ -7,7 +7,7 @@ ghost use Rattle.quick_cache_guard.specs.Answers.{IsAnswered, IsRefusedAsLoad};
 ghost use Rattle.quick_cache_guard.specs.Futures.{AnswersOnce, GivesFor, IfWaits, IsSource, Registers, has_answered, source_of};
 ghost use Rattle.quick_cache_loading.specs.Fitting.{FitsIfClonesDo};
 
-use crate::coming::{Waiting, answer, come, output};
+use crate::coming::{Waiting, answer, come, leave, output};
 use crate::guard::PlaceholderGuard;
 use crate::loads::look;
 use crate::results::GuardResult;
@@ -15,6 +15,7 @@ use crate::stage::Stage;
 use futures::Future;
 use futures::task::{Context, Poll};
 use quick_cache_loading::sharing::LoadingShard;
+use quick_cache_loading::waiting::Wants;
 use quick_cache_model::{Lifecycle, Refusal, ToKey};
 use std::alloc::{Allocator, Global};
 use std::hash::Hash;
@@ -91,15 +92,8 @@ impl<
             query: _,
             stage,
         } = self;
-        if let Stage::Waits(
-            Waiting {
-                placeholder,
-                place,
-                key: _key,
-            },
-        ) = stage
-        {
-            placeholder.withdraw(rt, &mut *shard.write(rt), place);
+        if let Stage::Waits(waiting) = stage {
+            leave(rt, shard, waiting);
         }
     }
 }
@@ -126,26 +120,6 @@ impl<
             shard,
             query,
             stage: Stage::Looks,
-        }
-    }
-
-    /// A future of one who waits already, as a task, at a placeholder of this shard. It takes no lock.
-    pub fn waiting(
-        rt: &'a R,
-        shard: &'a RwLock<S>,
-        query: &'q Q,
-        waiting: Waiting<K, V, L, A>,
-    ) -> Self
-        requires stands { StandsForGiven (Q.to_key_gives query.now) (Q.equivalent query.now) }
-        requires keyed { Q.to_key_gives query.now waiting.key }
-        ensures query { result.query ≡ query.now }
-        ensures begins { result.is_finished ≡ false }
-    {
-        JoinFuture {
-            rt,
-            shard,
-            query,
-            stage: Stage::Waits(waiting),
         }
     }
 
@@ -214,7 +188,7 @@ impl<
             place,
             key,
         } = waiting;
-        match placeholder.poll(self.rt, place, self.query, cx) {
+        match placeholder.poll(self.rt, place, self.query, Wants::Value, cx) {
             Err(place) => {
                 self.stand(Stage::Waits(Waiting {
                     placeholder,

@@ -2,7 +2,7 @@
 ghost use Rattle.std.specs.Prelude.{◌≡◌, IfErr, OnOk, OnErr, Some, codes, is_some, true};
 ghost use Rattle.std.specs.Arc.{arc_value};
 ghost use Rattle.quick_cache_loading.specs.Fitting.{ClonesFit};
-ghost use Rattle.quick_cache_guard.specs.Fills.{FilledAlone, FilledBy, IfBack, back_of};
+ghost use Rattle.quick_cache_guard.specs.Fills.{FilledAlone, FilledBy, IfBack, IsGoneSo, back_of};
 
 use quick_cache_loading::sharing::{LoadingShard, Placeholder, SharedPlaceholder};
 use quick_cache_loading::waiting::Share;
@@ -155,6 +155,7 @@ impl<
         requires fits { L.fits self value }
         requires clones { ClonesFit L.fits V.is_clone }
         ensures back { IfErr result (λ error. back_of error ≡ value) }
+        ensures gone { IfErr result (IsGoneSo S.lacks self.entry) }
         ensures told { OnOk result
             (FilledAlone L.RequestState.is_default S.fills self.entry value) }
     {
@@ -178,6 +179,8 @@ impl<
         requires fits { L.fits self value }
         requires clones { ClonesFit L.fits V.is_clone }
         ensures back { IfErr result (λ error. back_of error ≡ value) }
+        // It is gone only where there was no placeholder for it.
+        ensures gone { IfErr result (IsGoneSo S.lacks self.entry) }
         // Where memory was refused the guard comes back, and wherever it fails no hook was called.
         ensures guard { IfErr result (λ error. IfBack error (λ guard. guard ≡ self.entry)) }
         ensures unchanged { OnErr result (state.new ≡ state.old) }

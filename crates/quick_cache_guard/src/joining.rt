@@ -9,6 +9,7 @@ use crate::coming::{come, come_and_wait, output, wait_at};
 use crate::guard::PlaceholderGuard;
 use crate::results::GuardResult;
 use quick_cache_loading::sharing::{LoadingShard, Turns};
+use quick_cache_loading::waiting::Wants;
 use quick_cache_model::{Lifecycle, Refusal, ToKey};
 use std::alloc::Allocator;
 use std::hash::Hash;
@@ -68,7 +69,7 @@ impl<
         for _ in rt.forever() {
             match come(rt, shard, query, turns.is_over()) {
                 Ok(waiting) => {
-                    if let Some(answer) = wait_at(rt, shard, query, waiting, turns) {
+                    if let Some(answer) = wait_at(rt, shard, query, waiting, Wants::Value, turns) {
                         return answer;
                     }
                 }

@@ -9,6 +9,8 @@ pub mod Tasks
 pub mod Fitting
 pub mod Waiters
 pub mod Entering
+pub mod LettingGo
+pub mod FromState
 pub mod Begins
 pub mod Touches
 pub mod Turns

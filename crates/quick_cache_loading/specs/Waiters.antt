@@ -3,9 +3,10 @@ use Rattle.std.specs.Prelude.{◌≡◌, ℕ, ◌<◌, All, ⊤, Bool, true, fal
 use Rattle.quick_cache_model.specs.declared.refusal.Refusal.{Refusal}
 use Rattle.quick_cache_loading.specs.LoadingStep.{LoadingStep}
 use Rattle.quick_cache_loading.specs.declared.protocol.events.Event.{Event}
-use Rattle.quick_cache_loading.specs.Core.{CoreState, Life, numbers_in, waiters_of}
+use Rattle.quick_cache_loading.specs.Core.{CoreState, Life, is_filled, numbers_in, waiters_of}
 use Rattle.quick_cache_loading.specs.declared.protocol.events.Answer.{Answer}
 use Rattle.quick_cache_loading.specs.declared.waiting.waited.Waited.{Waited}
+use Rattle.quick_cache_loading.specs.declared.waiting.waited.Wants.{Wants}
 use Rattle.quick_cache_loading.specs.declared.waiting.tasks.Slot.{Slot}
 use Rattle.quick_cache_loading.specs.declared.waiting.place.Place.{Place}
 use Rattle.quick_cache_loading.specs.Tasks.{numbers_of}
@@ -109,3 +110,18 @@ told_or_none (Err place) = None
 abbrev pub by_number : {B : Type 0} → Result Place B → Result ℕ B
 by_number (Ok place) = Ok place.number
 by_number (Err told) = Err told
+
+-- the load has ended for one who wants no value: the life is filled
+abbrev pub has_ended : {V : Type 0} → Wants → Life V → Bool
+has_ended Wants.Value life = false
+has_ended Wants.End life = is_filled life
+
+-- of a value that one is told this is true; one who wants none is told of none
+abbrev pub IsWanted : {V : Type 0} → Wants → (V → Type 0) → (V → Type 0)
+IsWanted Wants.Value P = P
+IsWanted Wants.End P = λ value. ⊥
+
+-- one is refused
+abbrev pub is_refused : {V : Type 0} → Waited V → Bool
+is_refused (Waited.Refused why) = true
+is_refused _ = false

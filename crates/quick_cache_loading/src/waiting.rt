@@ -6,6 +6,7 @@ mod place;
 mod share;
 mod state;
 mod tasks;
+mod unroused;
 mod waited;
 
 pub use ended::{Ended, Filled};
@@ -13,4 +14,5 @@ pub use place::Place;
 pub use share::Share;
 pub use state::State;
 pub use tasks::{Slot, Tasks};
-pub use waited::Waited;
+pub use unroused::Unroused;
+pub use waited::{Waited, Wants};

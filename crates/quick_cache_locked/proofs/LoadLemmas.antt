@@ -1,7 +1,7 @@
 -- Why an entry call is refused, and what is left of a load that ends.
 use Rattle.std.proofs.Common.{ℕ, Bool, inl, inr, Result, Ok, Err}
 use Rattle.std.specs.Bool.{⊤}
-use Rattle.std.specs.Prelude.{IfErr, OnOk}
+use Rattle.std.specs.Prelude.{IfErr, OnOk, OnErr}
 use denote.Ref.{Bor, MutBor}
 use denote.Param.Members.{Mut}
 use Rattle.quick_cache_model.specs.declared.refusal.Refusal.{Refusal}
@@ -16,7 +16,7 @@ use Rattle.quick_cache_loading.specs.Waiters.{IsLoadRefusal}
 use Rattle.quick_cache_policy.specs.Entering.{AnswersEntry}
 use Rattle.quick_cache_shard.specs.Shard.{Shard}
 use Rattle.quick_cache_shard.specs.Steps.{Goes}
-use Rattle.quick_cache_locked.specs.Loads.{EndsLoadBy, EndsSomeLoad}
+use Rattle.quick_cache_locked.specs.Loads.{AwaitsNoEqual, EndsLoadBy, EndsSomeLoad}
 use Rattle.quick_cache_locked.specs.Locked.{IsKept}
 
 -- what refuses is what a load may be refused for
@@ -74,3 +74,12 @@ EndsLoad-some life equal goes may_count old ticket marked key value new first la
     = record { shard = old; kept = kept; holds = (new, ends) }
 EndsLoad-some life equal goes may_count old ticket marked key value new first last (Err back) ends kept
     = tt
+
+-- a load ended without it only where its placeholder was not there
+pub EndsLoad-lacks : {K V We B L S : Type 0} (equal : K → K → Bool) (goes : Goes K V We B L S)
+    (may_count : ℕ → Type 0) (old : Shard K V We B L) (ticket : ℕ) (marked : Bool) (key : K)
+    (value : V) (new : Shard K V We B L) (first last : S) (answer : Result (Unit {0}) V)
+    → EndsLoadBy goes may_count old equal ticket marked key value answer new first last
+    → OnErr answer (AwaitsNoEqual equal ticket key old.state)
+EndsLoad-lacks equal goes may_count old ticket marked key value new first last (Ok done) ends = tt
+EndsLoad-lacks equal goes may_count old ticket marked key value new first last (Err back) ends = ends.0

@@ -8,7 +8,7 @@ ghost use Rattle.quick_cache_guard.specs.Fills.{FilledAlone, FilledBy};
 use quick_cache_base::protocol::{Answer, Core, Event, run};
 use quick_cache_guard::entries::{EntryShard, entry};
 use quick_cache_guard::{EntryResult, FillError, LoadingShard, PlaceholderGuard, Turns};
-use quick_cache_loading::waiting::{Ended, Place, State};
+use quick_cache_loading::waiting::{Ended, Place, State, Unroused};
 use quick_cache_model::{EntryAction, Lifecycle, Refusal, ToKey};
 use std::alloc::Global;
 use std::hash::Hash;
@@ -102,7 +102,7 @@ pub fn run_events<V: Clone>(
 pub fn wait_no_more<K: Eq + Drop, V: Clone + Drop, L: Lifecycle<K, V>>(
     state: &mut State<K, V, L>,
     place: Place,
-) -> (Option<Answer<V>>, Option<Ended>)
+) -> Unroused<Option<Ended>>
     ensures { place.ticket ≡ state.old.ticket → waits place.number state.new.core ≡ false }
 {
     state.cancel(place)

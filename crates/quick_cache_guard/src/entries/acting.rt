@@ -5,13 +5,15 @@ ghost use Rattle.quick_cache_loading.specs.Fitting.{FitsQuery};
 ghost use Rattle.quick_cache_loading.specs.Turns.{IsLater, none_left};
 ghost use Rattle.quick_cache_guard.specs.Acts.{LeavesFit, LeavesHeld, LeavesOnce, MayAct, MayTell};
 ghost use Rattle.quick_cache_guard.specs.Entries.{AnswersAsChosen, IfAnswered, IfGivenBack, IfGuarded, IfRetained, IfUncalled};
-ghost use Rattle.quick_cache_guard.specs.Entries.{IsRefusedAsLoad, is_late};
+ghost use Rattle.quick_cache_guard.specs.Entries.{IsEntryToldSo, IsRefusedAsLoad, is_late};
+ghost use Rattle.quick_cache_guard.specs.Answers.{CameTo};
 
 use crate::coming::wait_at;
 use crate::entries::entering::{entry_of, join_there, share_of_new};
 use crate::entries::shard::EntryShard;
 use crate::{EntryResult, PlaceholderGuard, Waiting};
 use quick_cache_loading::sharing::Turns;
+use quick_cache_loading::waiting::Wants;
 use quick_cache_model::{EntryAction, EntryOrPlaceholder, Lifecycle, ToKey};
 use std::alloc::Allocator;
 use std::hash::Hash;
@@ -67,7 +69,8 @@ pub fn entry<
     for _ in rt.forever() {
         match come(rt, shard, query, &mut held, turns.is_over()) {
             Ok(waiting) => {
-                if let Some(answer) = entry_of(wait_at(rt, shard, query, waiting, turns)) {
+                let told = wait_at(rt, shard, query, waiting, Wants::End, turns);
+                if let Some(answer) = entry_of(told) {
                     return answer;
                 }
             }
@@ -125,6 +128,9 @@ pub fn come<
         (LeavesHeld F.FnOnce callback.old) L.fits (Q.equivalent query.now)
         (callback.new ≡ callback.old) answer) }
     ensures refused { IfAnswered result IsRefusedAsLoad }
+    // It looks again, or is late, only where a placeholder's state told it so.
+    ensures cause { IsEntryToldSo (CameTo V.is_clone (Q.equivalent query.now) Wants.End is_over)
+        result }
     ensures timely { is_over ≡ false → IfAnswered result (λ answer. is_late answer ≡ false) }
 {
     // The copy of the key is made before the shard changes.

@@ -1,12 +1,13 @@
 //! One who comes to a shard for an entry, and finds a placeholder.
 ghost use Rattle.std.specs.Prelude.{◌≡◌, false, IfOk, IfSome};
 ghost use Rattle.std.specs.Arc.{arc_value};
-ghost use Rattle.quick_cache_guard.specs.Entries.{IfAnswered, IfGivenBack, IfGuarded, IfRetained, IsRefusedAsLoad, entry_of, is_late};
+ghost use Rattle.quick_cache_guard.specs.Entries.{IfAnswered, IfGivenBack, IfGuarded, IfRetained, IsEntryToldSo, IsRefusedAsLoad, entry_of, is_late};
+ghost use Rattle.quick_cache_guard.specs.Answers.{CameTo};
 
 use crate::coming::answer;
 use crate::{EntryResult, GuardResult, LoadingShard, PlaceholderGuard, Waiting};
 use quick_cache_loading::sharing::{Placeholder, SharedPlaceholder};
-use quick_cache_loading::waiting::{Share, Waited};
+use quick_cache_loading::waiting::{Share, Waited, Wants};
 use quick_cache_model::{Equivalent, Lifecycle, Refusal};
 use std::alloc::Allocator;
 use std::hash::Hash;
@@ -44,13 +45,16 @@ pub fn join_there<
     ensures told { IfAnswered result (λ answer. IfRetained answer (λ told. ⊥)) }
     ensures key { IfAnswered result (λ answer. IfGuarded answer (λ own. own ≡ key)) }
     ensures refused { IfAnswered result IsRefusedAsLoad }
+    // It looks again, or is late, only where the placeholder's state told it so.
+    ensures cause { IsEntryToldSo (CameTo V.is_clone (Q.equivalent query.now) Wants.End is_over)
+        result }
     ensures timely { is_over ≡ false → IfAnswered result (λ answer. is_late answer ≡ false) }
 {
     let mut locked = locked;
     let Some(placeholder) = shared.placeholder() else {
         return Err(Some(EntryResult::Refused(Refusal::Memory)));
     };
-    let entered = placeholder.enter_unfilled(rt, &mut *locked, query, is_over);
+    let entered = placeholder.enter(rt, &mut *locked, query, Wants::End, is_over);
     drop(locked);
     match entered {
         Ok(place) => Ok(Waiting {
@@ -97,7 +101,7 @@ pub fn share_of_new<
     ensures share { IfSome result (λ given. given.1 ≡ (arc_value given.0).ticket) }
 {
     let placeholder = shared.placeholder()?;
-    match placeholder.enter_unfilled(rt, locked, query, true) {
+    match placeholder.enter(rt, locked, query, Wants::End, true) {
         Err(Waited::Guard(share)) => Some((placeholder, share)),
         Err(Waited::Value(_)) => None,
         Err(Waited::Timeout) => None,

@@ -1,17 +1,20 @@
 //! The entry call, for a task.
-ghost use Rattle.std.specs.Prelude.{◌≡◌, true, false, Some, IfSome, IsSome, IsSomeAnd};
+ghost use Rattle.std.specs.Prelude.{◌≡◌, ◌⊎◌, true, false, Some, IfSome, IfNone, IsSome, IsSomeAnd};
 ghost use Rattle.quick_cache_model.specs.Hashing.{StandsForGiven};
 ghost use Rattle.futures.specs.Poll.{IfReady, OnPending};
 ghost use Rattle.quick_cache_loading.specs.Fitting.{FitsQuery};
 ghost use Rattle.quick_cache_guard.specs.Acts.{LeavesFit, LeavesHeld, MayAct};
 ghost use Rattle.quick_cache_guard.specs.Entries.{AnswersAsChosen, IsRefusedAsLoad};
 ghost use Rattle.quick_cache_guard.specs.Entering.{GivesEntry};
-ghost use Rattle.quick_cache_guard.specs.Futures.{AnswersOnce, IsSource, Registers};
+ghost use Rattle.quick_cache_guard.specs.Futures.{AnswersOnce, IfWaits, IsSource, Registers, WasTold, has_answered, source_of};
+ghost use Rattle.std.specs.Arc.{arc_value};
 
+use crate::coming::leave;
 use crate::entries::{EntryShard, come};
-use crate::{EntryResult, JoinFuture, LoadingShard, PlaceholderGuard, Stage};
+use crate::{EntryResult, LoadingShard, PlaceholderGuard, Stage, Waiting};
 use futures::Future;
 use futures::task::{Context, Poll};
+use quick_cache_loading::waiting::{Waited, Wants};
 use quick_cache_model::{EntryAction, Lifecycle, Refusal, ToKey};
 use std::alloc::{Allocator, Global};
 use std::hash::Hash;
@@ -26,7 +29,6 @@ use std::sync::{RwLock, Wait};
 /// that finds the key being loaded joins those who wait; once that load has ended it looks again.
 /// One that meets a filled placeholder which is still in the shard asks to be polled again. Dropped,
 /// it waits no more, as `JoinFuture`. Polled after its answer it is refused as `Finished`.
-#[derive(Drop)]
 pub struct EntryFuture<
     'a,
     'q,
@@ -43,7 +45,7 @@ pub struct EntryFuture<
     rt: &'a R,
     shard: &'a RwLock<S>,
     query: &'q Q,
-    stage: Stage<JoinFuture<'a, 'q, Q, K, V, L, S, R, A>>,
+    stage: Stage<Waiting<K, V, L, A>>,
     callback: Option<F>,
     of: PhantomData<T>,
 }
@@ -61,7 +63,8 @@ impl<
     F: Drop,
     A: Allocator,
 > Model for EntryFuture<'a, 'q, Q, K, V, L, S, R, T, F, A> {
-    ghost use Rattle.std.specs.Prelude.{◌≡◌, true, false, IsSome};
+    ghost use Rattle.std.specs.Prelude.{◌≡◌, true, false, IsSome, Some};
+    ghost use Rattle.std.specs.Arc.{arc_value};
     ghost use Rattle.quick_cache_guard.specs.Entering.{EntryState};
     ghost use Rattle.quick_cache_guard.specs.Futures.{IfWaits, has_answered, source_of};
 
@@ -69,16 +72,41 @@ impl<
 
     ghost view = { λ f. record {
       query = f.query.now;
-      source = source_of f.stage (λ joining. joining.source);
+      source = source_of f.stage (λ waiting. Some (arc_value waiting.placeholder).source.id);
       callback = f.callback;
       is_finished = has_answered f.stage;
     } };
 
     ghost invariant = { λ f. ((key : K) → Q.to_key_gives f.query.now key
         → Q.equivalent f.query.now key ≡ true)
-        × IfWaits f.stage (λ joining. (joining.query ≡ f.query.now)
-        × (joining.is_finished ≡ false))
+        × IfWaits f.stage (λ waiting. Q.to_key_gives f.query.now waiting.key)
         × (has_answered f.stage ≡ false → IsSome f.callback) };
+}
+
+impl<
+    Q: ToKey<K>,
+    K: Eq + Hash + Drop,
+    V: Clone,
+    L: Lifecycle<K, V>,
+    S: LoadingShard<K, V, L, A>,
+    R: Wait,
+    T: Drop,
+    F: Drop,
+    A: Allocator,
+> Drop for EntryFuture<'_, '_, Q, K, V, L, S, R, T, F, A> {
+    fn drop(self) {
+        let EntryFuture {
+            rt,
+            shard,
+            query: _,
+            stage,
+            callback: _callback,
+            of: _,
+        } = self;
+        if let Stage::Waits(waiting) = stage {
+            leave(rt, shard, waiting);
+        }
+    }
 }
 
 impl<
@@ -131,12 +159,15 @@ impl<
             result self.new.is_finished }
         ensures registers { Registers (IsSome self.new.source) (IsSource self.new.source) result
             cx.old cx.new }
+        // One that stands nowhere was told to look again.
+        ensures again { OnPending result (IsSome self.new.source
+            ⊎ WasTold V.is_clone (Q.equivalent self.old.query) Wants.End Waited.Again) }
         ensures query { self.new.query ≡ self.old.query }
         ensures uncalled { OnPending result (self.new.callback ≡ self.old.callback) }
     {
         match replace(&mut self.stage, Stage::Finished) {
             Stage::Looks => self.come(cx),
-            Stage::Waits(joining) => match self.wait(joining, cx) {
+            Stage::Waits(waiting) => match self.wait(waiting, cx) {
                 Poll::Pending => Poll::Pending,
                 Poll::Ready(Some(answer)) => Poll::Ready(answer),
                 Poll::Ready(None) => self.come(cx),
@@ -145,17 +176,16 @@ impl<
         }
     }
 
-    /// Waits for what comes of another's load: a guard, or a refusal. Nothing is answered where it
+    /// Waits until another's load ends: it may be handed the guard. Nothing is answered where it
     /// ended with a value, and one has to look in the shard.
     fn wait(
         &mut self,
-        joining: JoinFuture<'a, 'q, Q, K, V, L, S, R, A>,
+        waiting: Waiting<K, V, L, A>,
         cx: &mut Context<'_>,
     ) -> Poll<Option<EntryResult<T, K, V, PlaceholderGuard<'a, K, V, L, S, R, A>>>>
         requires taken { self.old.is_finished ≡ true }
         requires held { IsSome self.old.callback }
-        requires query { joining.query ≡ self.old.query }
-        requires begins { joining.is_finished ≡ false }
+        requires keyed { Q.to_key_gives self.old.query waiting.key }
         ensures gives { IfReady result (λ told. IfSome told (GivesEntry F.FnOnce L.fits
             (Q.equivalent self.old.query) (Q.to_key_gives self.old.query) self.old.callback)) }
         ensures chosen { IfReady result (λ told. IfSome told (AnswersAsChosen
@@ -164,20 +194,36 @@ impl<
         ensures refused { IfReady result (λ told. IfSome told IsRefusedAsLoad) }
         ensures taken { IfReady result (λ _. self.new.is_finished ≡ true) }
         ensures goes_on { OnPending result (self.new.is_finished ≡ false) }
+        ensures waits { OnPending result (IsSome self.new.source) }
+        // It looks again only where it was told to.
+        ensures again { IfReady result (λ answer. IfNone answer
+            (WasTold V.is_clone (Q.equivalent self.old.query) Wants.End Waited.Again)) }
         ensures registers { Registers (IsSome self.new.source) (IsSource self.new.source) result
             cx.old cx.new }
         ensures query { self.new.query ≡ self.old.query }
         ensures callback { self.new.callback ≡ self.old.callback }
     {
-        let mut joining = joining;
-        match joining.go_on(cx) {
-            Poll::Pending => {
-                self.stage = Stage::Waits(joining);
+        let Waiting {
+            placeholder,
+            place,
+            key,
+        } = waiting;
+        match placeholder.poll(self.rt, place, self.query, Wants::End, cx) {
+            Err(place) => {
+                self.stand(Stage::Waits(Waiting {
+                    placeholder,
+                    place,
+                    key,
+                }));
                 Poll::Pending
             }
-            Poll::Ready(Ok(Ok(_))) => Poll::Ready(None),
-            Poll::Ready(Ok(Err(guard))) => Poll::Ready(Some(EntryResult::Vacant(guard))),
-            Poll::Ready(Err(refusal)) => Poll::Ready(Some(EntryResult::Refused(refusal))),
+            Ok(Waited::Guard(share)) => Poll::Ready(Some(EntryResult::Vacant(
+                PlaceholderGuard::by_share(self.rt, self.shard, placeholder, key, share),
+            ))),
+            Ok(Waited::Again) => Poll::Ready(None),
+            Ok(Waited::Value(_)) => unreachable!(),
+            Ok(Waited::Refused(_)) => unreachable!(),
+            Ok(Waited::Timeout) => unreachable!(),
         }
     }
 
@@ -199,18 +245,18 @@ impl<
             result self.new.is_finished }
         ensures registers { Registers (IsSome self.new.source) (IsSource self.new.source) result
             cx.old cx.new }
+        // One that stands nowhere was told to look again.
+        ensures again { OnPending result (IsSome self.new.source
+            ⊎ WasTold V.is_clone (Q.equivalent self.old.query) Wants.End Waited.Again) }
         ensures query { self.new.query ≡ self.old.query }
         ensures uncalled { OnPending result (self.new.callback ≡ self.old.callback) }
     {
         match come(self.rt, self.shard, self.query, &mut self.callback, false) {
-            Ok(waiting) => {
-                let joining = JoinFuture::waiting(self.rt, self.shard, self.query, waiting);
-                match self.wait(joining, cx) {
-                    Poll::Pending => Poll::Pending,
-                    Poll::Ready(Some(answer)) => Poll::Ready(answer),
-                    Poll::Ready(None) => self.look_again(cx),
-                }
-            }
+            Ok(waiting) => match self.wait(waiting, cx) {
+                Poll::Pending => Poll::Pending,
+                Poll::Ready(Some(answer)) => Poll::Ready(answer),
+                Poll::Ready(None) => self.look_again(cx),
+            },
             Err(Some(answer)) => Poll::Ready(answer),
             Err(None) => self.look_again(cx),
         }
@@ -223,6 +269,7 @@ impl<
     ) -> Poll<EntryResult<T, K, V, PlaceholderGuard<'a, K, V, L, S, R, A>>>
         requires held { IsSome self.old.callback }
         requires taken { self.old.is_finished ≡ true }
+        requires cause { WasTold V.is_clone (Q.equivalent self.old.query) Wants.End Waited.Again }
         ensures again { IfReady result (λ _. ⊥) }
         ensures goes_on { self.new.is_finished ≡ false }
         ensures registers { Registers (IsSome self.new.source) (IsSource self.new.source) result
@@ -230,8 +277,23 @@ impl<
         ensures query { self.new.query ≡ self.old.query }
         ensures callback { self.new.callback ≡ self.old.callback }
     {
-        self.stage = Stage::Looks;
+        self.stand(Stage::Looks);
         cx.yield_now()
+    }
+
+    /// Stands there until the next poll. Its stage was taken.
+    fn stand(&mut self, stage: Stage<Waiting<K, V, L, A>>)
+        requires taken { self.old.is_finished ≡ true }
+        requires held { IsSome self.old.callback }
+        requires keyed { IfWaits stage (λ waiting. Q.to_key_gives self.old.query waiting.key) }
+        ensures { self.new ≡ record self.old {
+          source = source_of stage (λ waiting. Some (arc_value waiting.placeholder).source.id);
+          is_finished = has_answered stage;
+        } }
+    {
+        if let Stage::Waits(_other) = replace(&mut self.stage, stage) {
+            unreachable!()
+        }
     }
 }
 

@@ -1,33 +1,40 @@
 -- One who comes to a life that has begun, or to one that goes on.
-use Rattle.std.proofs.Common.{◌≡◌, ◌==◌, ◌⊎◌, ◌&&◌, ◌||◌, not, inl, inr, ℕ, Bool, true, false, true≢false, Result, Ok, Err, None, Some}
+use Rattle.std.proofs.Common.{◌≡◌, ◌==◌, ◌⊎◌, ◌&&◌, ◌||◌, not, inl, inr, ℕ, Bool, true, false, true≢false, refl, Result, Ok, Err, None, Some}
 use Rattle.std.proofs.Common.{MatchBool, ap}
-use Rattle.std.specs.Prelude.{IfErr, ⊤}
+use Rattle.std.specs.Prelude.{IfErr, Option, is_some, ⊤}
 use Rattle.quick_cache_model.specs.declared.refusal.Refusal.{Refusal}
-use Rattle.quick_cache_loading.specs.Core.{Life, Loading, Filled, GivenUp, CoreState, core_state, is_filled, is_handed_to}
+use Rattle.quick_cache_loading.specs.Core.{Life, Loading, Filled, GivenUp, CoreState, core_state, is_filled, is_given_up, is_handed_to}
 use Rattle.quick_cache_loading.specs.LoadingStep.{Adds, Creates, Joins, LoadingStep, NotNowOf, Receives, TimesOut, Withdraws}
-use Rattle.quick_cache_loading.specs.LoadingLaws.{given_by, shown_by}
+use Rattle.quick_cache_loading.specs.LoadingLaws.{shown_by}
 use Rattle.quick_cache_loading.specs.declared.protocol.events.Event.{Event}
 use Rattle.quick_cache_loading.specs.declared.protocol.events.Answer.{Answer}
 use Rattle.quick_cache_loading.specs.declared.waiting.waited.Waited.{Waited}
+use Rattle.quick_cache_loading.specs.declared.waiting.waited.Wants.{Wants}
+use Rattle.quick_cache_loading.specs.Turns.{none_left}
 use Rattle.quick_cache_loading.specs.Entering.{Enters, TellsNewcomer, TellsOnce}
-use Rattle.quick_cache_loading.specs.Waiters.{IsGuard, IsTold, by_number}
+use Rattle.quick_cache_loading.specs.Waiters.{IsGuard, IsTold, IsWanted, by_number, has_ended}
 use Rattle.quick_cache_loading.specs.Waiting.{has, without_waiter}
 use Rattle.quick_cache_loading.specs.declared.waiting.place.Place.{Place}
 
-module _ {V : Type 0} (old : CoreState V) (a : Answer V) (new : CoreState V) where
-  -- where a life began, the answer was so
-  pub began : (life : Life V) → Creates life old a new → (given_by a == 1) ≡ true
-      → a ≡ Answer.Created
-  began (Loading h ws) step gives = absurd (cc)
-  began (Filled v) step gives = absurd (cc)
-  began GivenUp step gives = step.0
+module _ {V : Type 0} (old new : CoreState V) where
+  -- a life begins exactly where the last one was given up
+  pub begun : (a : Answer V) (life : Life V) → Creates life old a new → a ≡ Answer.Created
+      → is_given_up life ≡ true
+  begun a (Loading h ws) step is = absurd (cc)
+  begun a (Filled v) step is = absurd (cc)
+  begun a GivenUp step is = refl
 
-  -- where none began, nothing changed
-  pub went_on : (life : Life V) → Creates life old a new → (given_by a == 1) ≡ false
-      → (a ≡ Answer.NotNow) × (new ≡ old)
-  went_on (Loading h ws) step gives = step
-  went_on (Filled v) step gives = step
-  went_on GivenUp step gives = absurd (cc)
+  pub not-begun : (a : Answer V) (life : Life V) → Creates life old a new
+      → (a ≡ Answer.Created → ⊥) → (a ≡ Answer.NotNow) × (is_given_up life ≡ false)
+  not-begun a (Loading h ws) step other = (step.0, refl)
+  not-begun a (Filled v) step other = (step.0, refl)
+  not-begun a GivenUp step other = absurd (other step.0)
+
+  -- where none begins, nothing changes
+  pub went_on : (life : Life V) → Creates life old Answer.NotNow new → new ≡ old
+  went_on (Loading h ws) step = step.1
+  went_on (Filled v) step = step.1
+  went_on GivenUp step = absurd (cc)
 
 module _ {V : Type 0} (shows : V → V → Type 0) (stands : Bool) (n : ℕ) (is_over : Bool)
     (old : CoreState V) where
@@ -120,7 +127,7 @@ module _ {V : Type 0} (shows : V → V → Type 0) (stands : Bool) (n : ℕ) whe
   looked-unshown (Filled v) old a new unfilled step = absurd (true≢false unfilled)
   looked-unshown GivenUp old a new unfilled step = ap shown_by step.0
 
-  pub Enters-unshown : (is_over : Bool) (old : CoreState V) (told : Result ℕ (Waited V))
+  Enters-unshown : (is_over : Bool) (old : CoreState V) (told : Result ℕ (Waited V))
       (new : CoreState V) → is_filled old.life ≡ false → Enters shows stands n is_over old told new
       → ShowsNone told
   Enters-unshown _ old _ _ unfilled (Enters.begins share new step) = tt
@@ -133,7 +140,7 @@ module _ {V : Type 0} (shows : V → V → Type 0) (stands : Bool) (n : ℕ) whe
   Enters-unshown _ old _ _ unfilled (Enters.all_spent spent over create) = tt
 
 -- so what one is told is no value
-pub told-unshown : {V : Type 0} (P : V → Type 0) (ticket : ℕ) (told : Result Place (Waited V))
+told-unshown : {V : Type 0} (P : V → Type 0) (ticket : ℕ) (told : Result Place (Waited V))
     → ShowsNone (by_number told) → IfErr told (IsTold ticket P)
     → IfErr told (IsTold ticket (λ v. ⊥))
 told-unshown P ticket (Ok place) none told = tt
@@ -142,3 +149,19 @@ told-unshown P ticket (Err (Waited.Guard share)) none told = told
 told-unshown P ticket (Err (Waited.Refused why)) none told = told
 told-unshown P ticket (Err Waited.Timeout) none told = tt
 told-unshown P ticket (Err Waited.Again) none told = tt
+
+-- nor is one told of a value that comes and wants none
+pub came-wanted : {V : Type 0} (shows : V → V → Type 0) (stands : Bool) (P : V → Type 0)
+    (ticket n : ℕ) (is_over : Bool) (old : CoreState V) (wants : Wants)
+    (told : Result Place (Waited V)) (new : CoreState V) → has_ended wants old.life ≡ false
+    → Enters shows stands n is_over old (by_number told) new
+    → IfErr told (IsTold ticket P) → IfErr told (IsTold ticket (IsWanted wants P))
+came-wanted shows stands P ticket n is_over old Wants.Value told new goes_on enters is = is
+came-wanted shows stands P ticket n is_over old Wants.End told new goes_on enters is =
+    told-unshown P ticket told
+    (Enters-unshown shows stands n is_over old (by_number told) new goes_on enters) is
+
+-- turns that are not counted are never over
+pub uncounted : (limit : Option ℕ) (ended : ℕ) → is_some limit ≡ false → none_left limit ended ≡ false
+uncounted (Some limit) ended none = absurd (true≢false none)
+uncounted None ended none = refl

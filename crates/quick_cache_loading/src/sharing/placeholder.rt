@@ -1,15 +1,19 @@
 //! A key that is being loaded, as threads share it: its state behind a lock of its own.
-ghost use Rattle.std.specs.Prelude.{◌≡◌, ◌⊎◌, true, false, IfSome, IfOk, IfErr, IsErr, OnErr};
+ghost use Rattle.std.specs.Prelude.{◌≡◌, true, false, Some, IfSome, IfOk, IfErr, IsErr, OnErr};
 ghost use Rattle.std.specs.Int.NonZero.{non_zero_u32_get};
 ghost use Rattle.futures.specs.Task.{Covers, Keeps};
 ghost use Rattle.quick_cache_loading.specs.Fitting.{FitsIfClonesDo};
-ghost use Rattle.quick_cache_loading.specs.Waiters.{IsTold, is_timeout};
+ghost use Rattle.quick_cache_loading.specs.FromState.{ComesTo, FillsAt, FromState, LeavesBy, LooksAt, MayNotFill};
+ghost use Rattle.quick_cache_loading.specs.LettingGo.{HandsOn};
+ghost use Rattle.quick_cache_loading.specs.Tasks.{slots_of_others};
+ghost use Rattle.quick_cache_loading.specs.Waiters.{IsTold, IsWanted, WaitingState, by_number, is_refused, is_timeout, told_or_none};
+ghost use Rattle.quick_cache_loading.specs.declared.protocol.events.Event.{Event};
 ghost use Rattle.quick_cache_loading.specs.Turns.{IsLater, none_left};
 
 use crate::sharing::shard::LoadingShard;
 use crate::sharing::shared::SharedPlaceholder;
 use crate::sharing::turns::Turns;
-use crate::waiting::{Filled, Place, Share, State, Waited};
+use crate::waiting::{Filled, Place, Share, State, Waited, Wants};
 use futures::task::{Context, Source};
 use quick_cache_model::{Equivalent, Lifecycle, Token};
 use std::alloc::{Allocator, Global};
@@ -67,12 +71,13 @@ impl<K: Eq + Drop, V: Drop, L: Lifecycle<K, V>, A: Allocator> Placeholder<K, V, 
     /// Hands the guard of a share on where anyone waits. Else the share comes back: a guard is given
     /// up only while the lock of the shard is held. It takes the state's lock.
     pub fn hand_on<R: Wait>(&self, rt: &R, share: Share) -> Result<(), Share>
+        ensures hands_on { FromState (λ (old new : WaitingState K V). HandsOn share old new result) }
         ensures back { IfErr result (λ back. back ≡ share) }
     {
-        let mut state = self.state.lock(rt);
-        state.hand_on(share)?;
-        self.ready.notify_all();
-        Ok(())
+        match self.state.lock(rt).hand_on(share) {
+            Ok(unroused) => Ok(unroused.rouse(&self.ready)),
+            Err(share) => Err(share),
+        }
     }
 }
 
@@ -91,13 +96,18 @@ impl<K: Eq + Hash + Drop, V: Clone, L: Lifecycle<K, V>, A: Allocator> Placeholde
         value: V,
     ) -> Result<Filled, (Share, V)>
         requires fits { L.fits key.now value }
+        ensures fills { IfOk result (λ filled.
+            FromState (λ (old new : WaitingState K V).
+            FillsAt V.is_clone share value filled.waited old new)) }
+        ensures refused { OnErr result
+            (FromState (λ (old new : WaitingState K V). MayNotFill key.now share old)) }
         ensures filled { IfOk result (λ filled. filled.ticket ≡ share) }
         ensures back { IfErr result (λ back. (back.0 ≡ share) × (back.1 ≡ value)) }
     {
-        let mut state = self.state.lock(rt);
-        let filled = state.fill(key, share, value)?;
-        self.ready.notify_all();
-        Ok(filled)
+        match self.state.lock(rt).fill(key, share, value) {
+            Ok(unroused) => Ok(unroused.rouse(&self.ready)),
+            Err(back) => Err(back),
+        }
     }
 
     /// Gives the guard of a share up, or hands it on where anyone waits by now. The lock of the
@@ -109,14 +119,13 @@ impl<K: Eq + Hash + Drop, V: Clone, L: Lifecycle<K, V>, A: Allocator> Placeholde
         share: Share,
     )
         requires share { share ≡ self.now.ticket }
-        ensures leaves { (locked.new ≡ locked.old)
-            ⊎ S.gives_up self.now.ticket locked.old locked.new }
+        ensures leaves { FromState (λ (old new : WaitingState K V). LeavesBy share Event.Abandon
+            old.tasks (S.gives_up share locked.old locked.new) (locked.new ≡ locked.old) old new) }
     {
         let mut state = self.state.lock(rt);
-        let (_, ended) = state.abandon(share);
+        let unroused = state.abandon(share);
         drop(state);
-        self.ready.notify_all();
-        if let Some(ended) = ended {
+        if let Some(ended) = unroused.rouse(&self.ready) {
             ended.settle(locked, &SharedPlaceholder::named(self));
         }
     }
@@ -130,14 +139,14 @@ impl<K: Eq + Hash + Drop, V: Clone, L: Lifecycle<K, V>, A: Allocator> Placeholde
         place: Place,
     )
         requires place { place.ticket ≡ self.now.ticket }
-        ensures leaves { (locked.new ≡ locked.old)
-            ⊎ S.gives_up self.now.ticket locked.old locked.new }
+        ensures leaves { FromState (λ (old new : WaitingState K V). LeavesBy place.ticket
+            (Event.Cancel place.number) (slots_of_others place.number old.tasks)
+            (S.gives_up place.ticket locked.old locked.new) (locked.new ≡ locked.old) old new) }
     {
         let mut state = self.state.lock(rt);
-        let (_, ended) = state.cancel(place);
+        let unroused = state.cancel(place);
         drop(state);
-        self.ready.notify_all();
-        if let Some(ended) = ended {
+        if let Some(ended) = unroused.rouse(&self.ready) {
             ended.settle(locked, &SharedPlaceholder::named(self));
         }
     }
@@ -154,39 +163,21 @@ impl<K: Eq + Hash + Drop, V: Clone, L: Lifecycle<K, V>, A: Allocator> Placeholde
         rt: &R,
         _locked: &mut S,
         query: &Q,
+        wants: Wants,
         is_over: bool,
     ) -> Result<Place, Waited<V>>
+        ensures enters { FromState (ComesTo V.is_clone (Q.equivalent query.now) wants
+            self.now.ticket is_over (by_number result)) }
         ensures place { IfOk result (λ place. place.ticket ≡ self.now.ticket) }
         ensures shard { _locked.new ≡ _locked.old }
         ensures over { is_over ≡ true → IsErr result }
         ensures timely { is_over ≡ false → IfErr result (λ told. is_timeout told ≡ false) }
-        ensures told { IfErr result (IsTold self.now.ticket
-            (FitsIfClonesDo L.fits V.is_clone (Q.equivalent query.now))) }
+        // One who wants no value is shown none, and so asks for no clone of it.
+        ensures told { IfErr result (IsTold self.now.ticket (IsWanted wants
+            (FitsIfClonesDo L.fits V.is_clone (Q.equivalent query.now)))) }
     {
         let mut state = self.state.lock(rt);
-        if state.ticket() != self.ticket {
-            return Err(Waited::Again);
-        }
-        state.enter(query, is_over)
-    }
-
-    /// As `enter`, for one who looks in the shard again where the value has come: it is not cloned.
-    pub fn enter_unfilled<S: LoadingShard<K, V, L, A>, Q: Equivalent<K>, R: Wait>(
-        &self,
-        rt: &R,
-        _locked: &mut S,
-        query: &Q,
-        is_over: bool,
-    ) -> Result<Place, Waited<V>>
-        ensures place { IfOk result (λ place. place.ticket ≡ self.now.ticket) }
-        ensures shard { _locked.new ≡ _locked.old }
-        ensures over { is_over ≡ true → IsErr result }
-        ensures timely { is_over ≡ false → IfErr result (λ told. is_timeout told ≡ false) }
-        // It is shown no value, and so asks for no clone of one.
-        ensures told { IfErr result (IsTold self.now.ticket (λ value. ⊥)) }
-    {
-        let mut state = self.state.lock(rt);
-        if state.ticket() != self.ticket || state.is_filled() {
+        if state.ticket() != self.ticket || state.has_ended(wants) {
             return Err(Waited::Again);
         }
         state.enter(query, is_over)
@@ -203,29 +194,46 @@ impl<K: Eq + Hash + Drop, V: Clone, L: Lifecycle<K, V>, A: Allocator> Placeholde
         rt: &R,
         place: Place,
         query: &Q,
+        wants: Wants,
         cx: &mut Context<'_>,
     ) -> Result<Waited<V>, Place>
+        ensures looks { FromState (LooksAt V.is_clone (Q.equivalent query.now) wants place false
+            (told_or_none result)) }
         ensures place { IfErr result (λ kept. kept ≡ place) }
         ensures timely { IfOk result (λ told. is_timeout told ≡ false) }
-        ensures told { IfOk result (IsTold place.ticket
-            (FitsIfClonesDo L.fits V.is_clone (Q.equivalent query.now))) }
+        ensures told { IfOk result (IsTold place.ticket (IsWanted wants
+            (FitsIfClonesDo L.fits V.is_clone (Q.equivalent query.now)))) }
+        // One who wants no value asks for no memory, and is not refused.
+        ensures refused { wants ≡ Wants.End → IfOk result (λ told. is_refused told ≡ false) }
         ensures registered { OnErr result (Covers cx.new (λ s. s ≡ self.now.source.id)) }
         ensures kept { Keeps cx.old cx.new }
     {
-        self.state.lock(rt).poll(place, query, &self.source, cx)
+        self.state
+            .lock(rt)
+            .poll(place, query, wants, &self.source, cx)
     }
 
     /// Waits until the guard or the value comes to a waiter. It takes the state's lock, and lets it
     /// go while it sleeps.
-    pub fn wait<Q: Equivalent<K>, R: Wait>(&self, rt: &R, place: Place, query: &Q) -> Waited<V>
+    pub fn wait<Q: Equivalent<K>, R: Wait>(
+        &self,
+        rt: &R,
+        place: Place,
+        query: &Q,
+        wants: Wants,
+    ) -> Waited<V>
+        ensures looks { FromState (LooksAt V.is_clone (Q.equivalent query.now) wants place false
+            (Some result)) }
         ensures timely { is_timeout result ≡ false }
-        ensures told { IsTold place.ticket
-            (FitsIfClonesDo L.fits V.is_clone (Q.equivalent query.now)) result }
+        ensures told { IsTold place.ticket (IsWanted wants
+            (FitsIfClonesDo L.fits V.is_clone (Q.equivalent query.now))) result }
+        // One who wants no value asks for no memory, and is not refused.
+        ensures refused { wants ≡ Wants.End → is_refused result ≡ false }
     {
         let mut place = place;
         for _ in rt.forever() {
             let mut state = self.state.lock(rt);
-            match state.look(place, query, false) {
+            match state.look(place, query, wants, false) {
                 Ok(told) => return told,
                 Err(kept) => place = kept,
             }
@@ -240,21 +248,26 @@ impl<K: Eq + Hash + Drop, V: Clone, L: Lifecycle<K, V>, A: Allocator> Placeholde
         rt: &R,
         place: Place,
         query: &Q,
+        wants: Wants,
         turns: &mut Turns,
     ) -> Waited<V>
+        ensures looks { FromState (LooksAt V.is_clone (Q.equivalent query.now) wants place
+            (none_left turns.new.limit turns.new.ended) (Some result)) }
         // Its time is over only where no turn is left.
         ensures timely { is_timeout result ≡ true → none_left turns.new.limit turns.new.ended ≡ true }
         ensures counts { IsLater turns.old turns.new }
-        ensures told { IsTold place.ticket
-            (FitsIfClonesDo L.fits V.is_clone (Q.equivalent query.now)) result }
+        ensures told { IsTold place.ticket (IsWanted wants
+            (FitsIfClonesDo L.fits V.is_clone (Q.equivalent query.now))) result }
+        // One who wants no value asks for no memory, and is not refused.
+        ensures refused { wants ≡ Wants.End → is_refused result ≡ false }
     {
         if !turns.is_counted() {
-            return self.wait(rt, place, query);
+            return self.wait(rt, place, query, wants);
         }
         let mut place = place;
         for _ in rt.forever() {
             let mut state = self.state.lock(rt);
-            match state.look(place, query, turns.is_over()) {
+            match state.look(place, query, wants, turns.is_over()) {
                 Ok(told) => return told,
                 Err(kept) => place = kept,
             }

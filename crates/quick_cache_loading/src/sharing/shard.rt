@@ -29,6 +29,9 @@ pub trait LoadingShard<K: Eq + Hash + Drop, V: Clone, L: Lifecycle<K, V>, A: All
     /// placeholder of this ticket, and whether anyone waited for it.
     ghost fills: { ℕ → Bool → K → V → L.RequestState → L.RequestState → Type 0 };
 
+    /// The shard has no placeholder of this ticket for an equal key.
+    ghost lacks: { ℕ → K → Self → Type 0 };
+
     /// Looks the query's key up beside other readers, and gives a clone of its value. A find counts
     /// a hit and a touch of the item. Where there is none nothing is counted, since the caller goes
     /// on to `begin_load`.
@@ -77,6 +80,7 @@ pub trait LoadingShard<K: Eq + Hash + Drop, V: Clone, L: Lifecycle<K, V>, A: All
         requires fits { L.fits key.now value }
         requires filled { filled.now.ticket ≡ placeholder.now.ticket }
         ensures back { IfErr result (λ back. back ≡ value) }
+        ensures lacks { OnErr result (lacks filled.now.ticket key.now self.old) }
         ensures unchanged { OnErr result (state.new ≡ state.old) }
         ensures told { OnOk result
             (fills filled.now.ticket filled.now.waited key.now value state.old state.new) };

@@ -80,6 +80,7 @@ impl Filled {
         requires fits { L.fits key.now value }
         requires filled { self.ticket ≡ placeholder.now.ticket }
         ensures back { IfErr result (λ back. back ≡ value) }
+        ensures lacks { OnErr result (S.lacks self.ticket key.now locked.old) }
         ensures unchanged { OnErr result (state.new ≡ state.old) }
         ensures told { OnOk result
             (S.fills self.ticket self.waited key.now value state.old state.new) }

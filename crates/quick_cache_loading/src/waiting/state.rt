@@ -1,10 +1,9 @@
 //! The state of a placeholder, as its lock keeps it.
-ghost use Rattle.std.specs.Prelude.{◌≡◌, ◌≢◌, ◌==◌, true, false, MatchOption, MatchResult, not, length, Some, None, [], IfSome, IfNone};
+ghost use Rattle.std.specs.Prelude.{◌≡◌, ◌≢◌, ◌==◌, true, false, not, length, Some, None, [], IfSome};
 ghost use Rattle.std.specs.Prelude.{is_some};
 ghost use Rattle.quick_cache_loading.specs.Core.{new_core, is_filled, is_sound, waiters_of, waits};
-ghost use Rattle.quick_cache_loading.specs.LoadingStep.{LoadingStep};
-ghost use Rattle.quick_cache_loading.specs.LoadingLaws.{ShowsNothing};
-ghost use Rattle.quick_cache_loading.specs.Tasks.{slots_after, slots_of_others};
+ghost use Rattle.quick_cache_loading.specs.LettingGo.{HandsOn, LetsGo};
+ghost use Rattle.quick_cache_loading.specs.Tasks.{slots_of_others};
 ghost use Rattle.quick_cache_loading.specs.Waiters.{ends_life};
 
 mod events;
@@ -15,6 +14,7 @@ use crate::waiting::ended::Ended;
 use crate::waiting::place::Place;
 use crate::waiting::share::Share;
 use crate::waiting::tasks::Tasks;
+use crate::waiting::unroused::Unroused;
 use quick_cache_model::Lifecycle;
 use std::alloc::{Allocator, Global};
 use std::marker::{Model, PhantomData};
@@ -136,14 +136,8 @@ impl<K: Eq + Drop, V: Drop, L: Lifecycle<K, V>, A: Allocator> State<K, V, L, A> 
 
     /// Hands the guard of a share on where anyone waits. Else the share comes back. A share of
     /// another placeholder ends.
-    pub fn hand_on(&mut self, share: Share) -> Result<Option<Answer<V>>, Share>
-        ensures event { MatchResult result
-            (λ handed. MatchOption handed
-            ((share ≢ self.old.ticket) × (self.new ≡ self.old))
-            (λ answer. LoadingStep ShowsNothing self.old.core Event.Abandon answer self.new.core
-            × (self.new.tasks ≡ slots_after answer self.old.tasks)))
-            (λ back. (back ≡ share) × (waiters_of self.old.core.life ≡ [])
-            × (self.new ≡ self.old)) }
+    pub fn hand_on(&mut self, share: Share) -> Result<Unroused<()>, Share>
+        ensures event { HandsOn share self.old self.new result }
         ensures same { self.new ≡ record self.old {
           core = self.new.core;
           tasks = self.new.tasks;
@@ -152,9 +146,8 @@ impl<K: Eq + Drop, V: Drop, L: Lifecycle<K, V>, A: Allocator> State<K, V, L, A> 
         if !self.has_waiters() {
             return Err(share);
         }
-        let (answer, ended) = self.abandon(share);
-        match ended {
-            None => Ok(answer),
+        match self.abandon(share).open() {
+            None => Ok(Unroused::new(())),
             Some(_ended) => unreachable!(),
         }
     }
@@ -174,18 +167,14 @@ impl<K: Eq + Drop, V: Drop, L: Lifecycle<K, V>, A: Allocator> State<K, V, L, A> 
     }
 
     /// Gives the guard of a share up, which takes the share back. Where no guard is held the share
-    /// ends. So does a share of another placeholder, and there is no answer.
-    pub fn abandon(&mut self, share: Share) -> (Option<Answer<V>>, Option<Ended>)
-        ensures other { IfNone result.0
-            ((share ≢ self.old.ticket) × (self.new ≡ self.old) × (result.1 ≡ None)) }
-        ensures event { IfSome result.0 (λ answer. (share ≡ self.old.ticket)
-            × LoadingStep ShowsNothing self.old.core Event.Abandon answer self.new.core) }
+    /// ends. So does a share of another placeholder, and nothing changes.
+    pub fn abandon(&mut self, share: Share) -> Unroused<Option<Ended>>
         // What tells the shard comes exactly where the life was given up.
-        ensures ends { IfSome result.0 (λ answer. is_some result.1 ≡ ends_life answer) }
-        ensures ended { IfSome result.1 (λ ended. ended.ticket ≡ share) }
-        // The task of the one to whom the guard is handed is woken, and no other.
-        ensures woken { IfSome result.0
-            (λ answer. self.new.tasks ≡ slots_after answer self.old.tasks) }
+        ensures event { share ≡ self.old.ticket → LetsGo Event.Abandon (is_some result)
+            self.old.core self.old.tasks self.new.core self.new.tasks }
+        ensures other { share ≢ self.old.ticket → (self.new ≡ self.old) × (result ≡ None) }
+        ensures ended { IfSome result
+            (λ ended. (ended.ticket ≡ share) × (share ≡ self.old.ticket)) }
         ensures same { self.new ≡ record self.old {
           core = self.new.core;
           tasks = self.new.tasks;
@@ -193,7 +182,7 @@ impl<K: Eq + Drop, V: Drop, L: Lifecycle<K, V>, A: Allocator> State<K, V, L, A> 
     {
         if share.ticket() != self.ticket {
             share.end();
-            return (None, None);
+            return Unroused::new(None);
         }
         self.is_sound();
         let answer = abandon(&mut self.core);
@@ -203,25 +192,23 @@ impl<K: Eq + Drop, V: Drop, L: Lifecycle<K, V>, A: Allocator> State<K, V, L, A> 
             Answer::NotNow => share.end(),
             _ => keep(&mut self.share, share),
         }
-        (Some(answer), ended)
+        Unroused::new(ended)
     }
 
     /// Withdraws a waiter, whose task is woken. A guard that was on its way to it is handed on, or
-    /// given up. A place at another placeholder ends, and there is no answer.
-    pub fn cancel(&mut self, place: Place) -> (Option<Answer<V>>, Option<Ended>)
-        ensures other { IfNone result.0
-            ((place.ticket ≢ self.old.ticket) × (self.new ≡ self.old) × (result.1 ≡ None)) }
-        ensures event { IfSome result.0 (λ answer. (place.ticket ≡ self.old.ticket)
-            × LoadingStep ShowsNothing self.old.core (Event.Cancel place.number) answer
-            self.new.core) }
-        // What tells the shard comes exactly where the life was given up.
-        ensures ends { IfSome result.0 (λ answer. is_some result.1 ≡ ends_life answer) }
-        ensures ended { IfSome result.1 (λ ended. ended.ticket ≡ place.ticket) }
-        // It waits no more, and its slot is gone.
+    /// given up. A place at another placeholder ends, and nothing changes.
+    pub fn cancel(&mut self, place: Place) -> Unroused<Option<Ended>>
+        // Its slot is gone. What tells the shard comes exactly where the life was given up.
+        ensures event { place.ticket ≡ self.old.ticket
+            → LetsGo (Event.Cancel place.number) (is_some result) self.old.core
+            (slots_of_others place.number self.old.tasks) self.new.core self.new.tasks }
+        ensures other { place.ticket ≢ self.old.ticket
+            → (self.new ≡ self.old) × (result ≡ None) }
+        ensures ended { IfSome result
+            (λ ended. (ended.ticket ≡ place.ticket) × (place.ticket ≡ self.old.ticket)) }
+        // It waits no more.
         ensures withdrawn { place.ticket ≡ self.old.ticket
             → waits place.number self.new.core ≡ false }
-        ensures woken { IfSome result.0 (λ answer. self.new.tasks
-            ≡ slots_after answer (slots_of_others place.number self.old.tasks)) }
         ensures same { self.new ≡ record self.old {
           core = self.new.core;
           tasks = self.new.tasks;
@@ -229,14 +216,13 @@ impl<K: Eq + Drop, V: Drop, L: Lifecycle<K, V>, A: Allocator> State<K, V, L, A> 
     {
         if place.ticket() != self.ticket {
             place.end();
-            return (None, None);
+            return Unroused::new(None);
         }
         self.is_sound();
         let waiter = place.end();
         self.tasks.wake(waiter);
         let answer = cancel(&mut self.core, waiter);
         self.tasks.wake_handed(&answer);
-        let ended = ended_by(self.ticket, &answer);
-        (Some(answer), ended)
+        Unroused::new(ended_by(self.ticket, &answer))
     }
 }

@@ -2,6 +2,15 @@
 use crate::waiting::share::Share;
 use quick_cache_model::Refusal;
 
+/// What one who waits wants of a load.
+#[derive(Clone, Copy)]
+pub enum Wants {
+    /// A clone of the value that comes.
+    Value,
+    /// To know that it has ended: one looks in the shard again, and no value is cloned.
+    End,
+}
+
 /// What one who waits is told.
 pub enum Waited<V> {
     /// A clone of the value that came.

@@ -5,7 +5,7 @@ ghost use Rattle.quick_cache_model.specs.Placeholders.{GivesUpPlaceholder};
 ghost use Rattle.quick_cache_shard.specs.Shard.{KeepsPlaces, UpToOrder};
 ghost use Rattle.quick_cache_loading.specs.Begins.{IfFound};
 ghost use Rattle.quick_cache_locked.specs.Fitting.{ClonesFit, FitsQuery};
-ghost use Rattle.quick_cache_locked.specs.Loads.{BeginsLoad, EndsLoadBy, EndsSomeLoad};
+ghost use Rattle.quick_cache_locked.specs.Loads.{AwaitsNoEqual, BeginsLoad, EndsLoadBy, EndsSomeLoad};
 ghost use Rattle.quick_cache_locked.specs.Locked.{IsKept};
 ghost use Rattle.quick_cache_locked.specs.Touches.{any_touches};
 
@@ -111,6 +111,8 @@ impl<
 
     // A load ended so in some shard that a lock kept. Nobody knows which one it was.
     ghost fills = { EndsSomeLoad L.Lifecycle K.eq ⟦<Self as Ruled>⟧.goes any_touches };
+
+    ghost lacks = { λ ticket key shard. AwaitsNoEqual K.eq ticket key shard.state };
 
     fn find<Q: Equivalent<K>>(&self, query: &Q) -> Result<Option<V>, Refusal> {
         self.find(query)

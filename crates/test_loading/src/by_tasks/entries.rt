@@ -4,7 +4,11 @@ use futures::test::MockTask;
 use quick_cache_guard::{EntryResult, GuardResult};
 use quick_cache_shard::EntryAction;
 use quick_cache_sync::Cache;
-use test_tools::{expect, expect_eq, expect_ok};
+use std::alloc::Global;
+use test_tools::{Rationed, expect, expect_eq, expect_ok};
+
+/// A text of which each clone may be refused.
+type Text<'a> = String<&'a Rationed<Global>>;
 
 #[test]
 fn an_entry_call_looks_again_after_a_load(rt: HostRuntime) {
@@ -48,4 +52,21 @@ fn an_entry_call_gets_a_guard(rt: HostRuntime) {
             Poll::Ready(EntryResult::Replaced(_, 9))
         )
     );
+}
+
+#[test]
+fn an_entry_call_that_waited_clones_nothing(rt: HostRuntime) {
+    let ration = Rationed::new(rt.alloc(), 1000);
+    let cache: Cache<u64, Text<'_>> = expect_ok!(rt; Cache::new(rt.alloc(), 100));
+    let rt = &rt;
+    let GuardResult::Guard(guard) = cache.get_value_or_guard(rt, &1, None) else {
+        panic!(rt; "the key is absent");
+    };
+    let counts = |_: &u64, text: &mut Text<'_>| EntryAction::Retain(text.len());
+    let mut acts = cache.entry_async(rt, &1, counts);
+    let task = expect_ok!(rt; MockTask::new(rt));
+    expect!(rt; task.poll(&mut acts).is_pending());
+    expect!(rt; guard.insert(expect_ok!(rt; String::from_str(&ration, "load"))).is_ok());
+    ration.allow(0);
+    expect!(rt; matches!(task.poll(&mut acts), Poll::Ready(EntryResult::Retained(4))));
 }

@@ -7,7 +7,7 @@ use futures::test::MockTask;
 use quick_cache_guard::entry_tasks::EntryFuture;
 use quick_cache_guard::{Begun, EntryResult, LoadingShard};
 use quick_cache_loading::sharing::Placeholder;
-use quick_cache_loading::waiting::{Filled, Waited};
+use quick_cache_loading::waiting::{Filled, Waited, Wants};
 use quick_cache_locked::LockedShard;
 use quick_cache_model::{DefaultHashBuilder, UnitWeighter};
 use quick_cache_options::OptionsBuilder;
@@ -42,7 +42,7 @@ fn load_and_tell<S: LoadingShard<u64, Unique, Life, A>, R: Wait, A: Allocator>(
 ) -> Option<Filled>
     ensures { IfSome result (λ filled. filled.ticket ≡ placeholder.now.ticket) }
 {
-    match placeholder.enter(rt, locked, &1, true) {
+    match placeholder.enter(rt, locked, &1, Wants::Value, true) {
         Err(Waited::Guard(share)) => match placeholder.fill(rt, &1, share, Unique(5)) {
             Ok(filled) => Some(filled),
             Err((share, _)) => {

@@ -1,5 +1,7 @@
 use Rattle.quick_cache_loading.specs.Fitting.{FitsIfClonesDo}
-use Rattle.quick_cache_guard.proofs.AnswerLemmas.{answered}
+use Rattle.quick_cache_loading.specs.declared.waiting.waited.Wants.{Wants}
+use Rattle.quick_cache_guard.specs.Answers.{CameTo}
+use Rattle.quick_cache_guard.proofs.AnswerLemmas.{answered, told_so}
 use Rattle.quick_cache_guard.proofs.coming.come.Goals as goal
 
 -- it answers as it is told
@@ -8,3 +10,8 @@ returns-clause-answers g c = rw c.answer.ensures (answered
     (FitsIfClonesDo g.L.Lifecycle.fits g.V.Clone.is_clone (g.Q.Equivalent.equivalent c.args.query.now))
     (g.Q.ToKey.to_key_gives c.args.query.now) _ c.in-Ok.key c.in-Err-entered.told
     c.in-Ok.ensures.gives c.in-Err-entered.ensures.told)
+
+pub returns-clause-cause : goal.returns-clause-cause
+returns-clause-cause g c = rw c.answer.ensures (told_so
+    (CameTo g.V.Clone.is_clone (g.Q.Equivalent.equivalent c.args.query.now) Wants.Value
+    c.args.is_over) c.in-Ok.key c.in-Err-entered.told (_, c.in-Err-entered.ensures.enters))

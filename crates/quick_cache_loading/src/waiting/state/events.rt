@@ -1,7 +1,8 @@
 //! What happens to a placeholder: each call is one event of its core.
-ghost use Rattle.std.specs.Prelude.{◌≡◌, ◌≢◌, ◌⊎◌, ◌==◌, ◌+◌, ◌<◌, MatchResult, not, length, IfSome, IfNone, IfOk, IfErr, IsSome, OnErr};
+ghost use Rattle.std.specs.Prelude.{◌≡◌, ◌≢◌, ◌⊎◌, ◌==◌, ◌+◌, ◌<◌, MatchOption, MatchResult, not, length, IfSome, IfNone, IfOk, IfErr, IsSome, OnErr};
 ghost use Rattle.std.specs.Prelude.{is_some, true, false};
-ghost use Rattle.quick_cache_loading.specs.Core.{held_count, waiters_of};
+ghost use Rattle.quick_cache_loading.specs.Core.{is_given_up, waiters_of};
+ghost use Rattle.quick_cache_loading.specs.FromState.{MayNotFill};
 ghost use Rattle.quick_cache_loading.specs.LoadingStep.{LoadingStep};
 ghost use Rattle.quick_cache_loading.specs.LoadingLaws.{given_by, shown_by};
 ghost use Rattle.quick_cache_loading.specs.Fitting.{ClonesFit};
@@ -13,23 +14,24 @@ use crate::waiting::ended::Filled;
 use crate::waiting::place::Place;
 use crate::waiting::share::Share;
 use crate::waiting::state::{State, keep};
+use crate::waiting::unroused::Unroused;
 use quick_cache_model::{Lifecycle, Refusal};
 use std::alloc::Allocator;
 
 impl<K: Eq + Drop, V: Clone, L: Lifecycle<K, V>, A: Allocator> State<K, V, L, A> {
     /// Begins a life, and gives the share of its guard.
-    pub fn create(&mut self) -> (Answer<V>, Option<Share>)
-        ensures event { LoadingStep V.is_clone self.old.core Event.Create result.0 self.new.core }
-        ensures gives { is_some result.1 ≡ (given_by result.0 == 1) }
-        ensures share { IfSome result.1 (λ share. share ≡ self.old.ticket) }
+    pub fn create(&mut self) -> Option<Share>
+        ensures event { MatchOption result
+            (LoadingStep V.is_clone self.old.core Event.Create Answer.NotNow self.new.core)
+            (λ _. LoadingStep V.is_clone self.old.core Event.Create Answer.Created self.new.core) }
+        ensures gives { is_some result ≡ is_given_up self.old.core.life }
+        ensures share { IfSome result (λ share. share ≡ self.old.ticket) }
         ensures same { self.new ≡ record self.old { core = self.new.core } }
     {
-        let answer = step(&mut self.core, Event::Create);
-        let share = match answer {
+        match step(&mut self.core, Event::Create) {
             Answer::Created => self.share.take(),
             _ => None,
-        };
-        (answer, share)
+        }
     }
 
     /// One comes for the value by the next number, and waits for it where it is loading. It gets its
@@ -81,7 +83,7 @@ impl<K: Eq + Drop, V: Clone, L: Lifecycle<K, V>, A: Allocator> State<K, V, L, A>
     ///
     /// The share and the value, where the share or the key is of another placeholder, or no guard is
     /// held.
-    pub fn fill(&mut self, key: &K, share: Share, value: V) -> Result<Filled, (Share, V)>
+    pub fn fill(&mut self, key: &K, share: Share, value: V) -> Result<Unroused<Filled>, (Share, V)>
         requires fits { L.fits key.now value }
         ensures event { MatchResult result
             (λ filled. (filled ≡ record {
@@ -93,8 +95,7 @@ impl<K: Eq + Drop, V: Clone, L: Lifecycle<K, V>, A: Allocator> State<K, V, L, A>
         // All tasks are woken by a fill, and by nothing else.
         ensures woken { self.new.tasks ≡ slots_after_fill result self.old.tasks }
         ensures back { IfErr result (λ back. (back.0 ≡ share) × (back.1 ≡ value)) }
-        ensures refused { OnErr result ((share ≢ self.old.ticket) ⊎ ((key.now ≢ self.old.key)
-            ⊎ (held_count self.old.core ≡ 0))) }
+        ensures refused { OnErr result (MayNotFill key.now share self.old) }
         ensures same { self.new ≡ record self.old {
           core = self.new.core;
           tasks = self.new.tasks;
@@ -113,7 +114,7 @@ impl<K: Eq + Drop, V: Clone, L: Lifecycle<K, V>, A: Allocator> State<K, V, L, A>
         step(&mut self.core, Event::Fill(value));
         keep(&mut self.share, share);
         self.tasks.wake_all();
-        Ok(Filled::new(self.ticket, waited))
+        Ok(Unroused::new(Filled::new(self.ticket, waited)))
     }
 
     /// A waiter looks whether the guard or the value has come.

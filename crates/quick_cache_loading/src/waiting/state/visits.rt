@@ -5,7 +5,7 @@ ghost use Rattle.futures.specs.Task.{Covers, Keeps};
 ghost use Rattle.quick_cache_loading.specs.LoadingLaws.{given_by, shown_by};
 ghost use Rattle.quick_cache_loading.specs.Fitting.{ClonesFit, FitsIfClonesDo};
 ghost use Rattle.quick_cache_loading.specs.Tasks.{HasWaker, has_slot, slots_after_look, slots_of_others};
-ghost use Rattle.quick_cache_loading.specs.Waiters.{IsTold, Looks, Tells, by_number, has_joined, is_timed_out, is_timeout, look_event};
+ghost use Rattle.quick_cache_loading.specs.Waiters.{IsTold, IsWanted, Looks, Tells, by_number, has_ended, has_joined, is_refused, is_timed_out, is_timeout, look_event};
 ghost use Rattle.quick_cache_loading.specs.Waiters.{told_or_none, waits_on};
 ghost use Rattle.quick_cache_loading.specs.Entering.{Enters, LooksOnce, TellsNewcomer};
 
@@ -13,7 +13,7 @@ use crate::protocol::{Answer, Event};
 use crate::waiting::place::Place;
 use crate::waiting::share::Share;
 use crate::waiting::state::State;
-use crate::waiting::waited::Waited;
+use crate::waiting::waited::{Waited, Wants};
 use futures::task::{Context, Poll, Source};
 use quick_cache_model::{Equivalent, Lifecycle, Refusal};
 use std::alloc::Allocator;
@@ -27,35 +27,50 @@ impl<K: Eq + Hash + Drop, V: Clone, L: Lifecycle<K, V>, A: Allocator> State<K, V
         query.equivalent(&self.key)
     }
 
+    /// Whether the load has ended for one who wants this: the value has come, and it wants none.
+    pub fn has_ended(&self, wants: Wants) -> bool
+        ensures { result ≡ has_ended wants self.now.core.life }
+    {
+        match wants {
+            Wants::Value => false,
+            Wants::End => self.is_filled(),
+        }
+    }
+
     /// A waiter looks whether the guard or the value has come, for the last time where its time is
     /// over. One who goes on waiting keeps its place. A place at another placeholder ends, and who
-    /// has it looks in the shard again.
+    /// has it looks in the shard again; so does one who wants no value, once that has come.
     pub fn look<Q: Equivalent<K>>(
         &mut self,
         place: Place,
         query: &Q,
+        wants: Wants,
         is_over: bool,
     ) -> Result<Waited<V>, Place>
-        ensures looks { place.ticket ≡ self.old.ticket
+        ensures looks { place.ticket ≡ self.old.ticket → has_ended wants self.old.core.life ≡ false
             → Looks V.is_clone (Q.equivalent query.now self.old.key) self.old.core (look_event place.number is_over)
             (told_or_none result) self.new.core }
+        ensures ended { place.ticket ≡ self.old.ticket → has_ended wants self.old.core.life ≡ true
+            → (result ≡ Ok Waited.Again) × (self.new ≡ self.old) }
         ensures elsewhere { place.ticket ≢ self.old.ticket
             → (result ≡ Ok Waited.Again) × (self.new ≡ self.old) }
         ensures place { IfErr result (λ kept. kept ≡ place) }
         ensures over { is_over ≡ true → IsOk result }
         ensures timely { is_over ≡ false → IfOk result (λ told. is_timeout told ≡ false) }
-        ensures told { IfOk result (IsTold place.ticket
-            (FitsIfClonesDo L.fits V.is_clone (Q.equivalent query.now))) }
+        ensures told { IfOk result (IsTold place.ticket (IsWanted wants
+            (FitsIfClonesDo L.fits V.is_clone (Q.equivalent query.now)))) }
+        // One who wants no value asks for no memory, and is not refused.
+        ensures refused { wants ≡ Wants.End → IfOk result (λ told. is_refused told ≡ false) }
         // Who goes on waiting has its slot, and who looks for the last time has none.
         ensures waits { OnErr result (has_slot place.number self.new.tasks ≡ true) }
-        ensures woken { place.ticket ≡ self.old.ticket
+        ensures woken { place.ticket ≡ self.old.ticket → has_ended wants self.old.core.life ≡ false
             → self.new.tasks ≡ slots_after_look is_over place.number self.old.tasks }
         ensures same { self.new ≡ record self.old {
           core = self.new.core;
           tasks = self.new.tasks;
         } }
     {
-        if place.ticket() != self.ticket {
+        if place.ticket() != self.ticket || self.has_ended(wants) {
             place.end();
             return Ok(Waited::Again);
         }
@@ -136,16 +151,22 @@ impl<K: Eq + Hash + Drop, V: Clone, L: Lifecycle<K, V>, A: Allocator> State<K, V
         &mut self,
         place: Place,
         query: &Q,
+        wants: Wants,
         source: &Source,
         cx: &mut Context<'_>,
     ) -> Result<Waited<V>, Place>
-        ensures looks { place.ticket ≡ self.old.ticket
+        ensures looks { place.ticket ≡ self.old.ticket → has_ended wants self.old.core.life ≡ false
             → Looks V.is_clone (Q.equivalent query.now self.old.key) self.old.core (Event.Take place.number)
             (told_or_none result) self.new.core }
+        ensures ended { place.ticket ≡ self.old.ticket → has_ended wants self.old.core.life ≡ true
+            → (result ≡ Ok Waited.Again) × (self.new ≡ self.old) }
+        ensures elsewhere { place.ticket ≢ self.old.ticket
+            → (result ≡ Ok Waited.Again) × (self.new ≡ self.old) }
         ensures place { IfErr result (λ kept. kept ≡ place) }
         ensures timely { IfOk result (λ told. is_timeout told ≡ false) }
-        ensures told { IfOk result (IsTold place.ticket
-            (FitsIfClonesDo L.fits V.is_clone (Q.equivalent query.now))) }
+        ensures told { IfOk result (IsTold place.ticket (IsWanted wants
+            (FitsIfClonesDo L.fits V.is_clone (Q.equivalent query.now)))) }
+        ensures refused { wants ≡ Wants.End → IfOk result (λ told. is_refused told ≡ false) }
         ensures same { self.new ≡ record self.old {
           core = self.new.core;
           tasks = self.new.tasks;
@@ -157,7 +178,7 @@ impl<K: Eq + Hash + Drop, V: Clone, L: Lifecycle<K, V>, A: Allocator> State<K, V
         ensures waker { OnErr result ((cx.new.lacks_waker ≡ true)
             ⊎ HasWaker place.number cx.old self.new.tasks) }
     {
-        let looked = self.look(place, query, false);
+        let looked = self.look(place, query, wants, false);
         if let Err(place) = &looked {
             let _: Poll<()> = self.tasks.wait(place.number(), source, cx);
         }
@@ -187,8 +208,7 @@ impl<K: Eq + Hash + Drop, V: Clone, L: Lifecycle<K, V>, A: Allocator> State<K, V
           next = self.new.next;
         } }
     {
-        let (_, share) = self.create();
-        if let Some(share) = share {
+        if let Some(share) = self.create() {
             return Err(Waited::Guard(share));
         }
         if is_over {

@@ -1,4 +1,4 @@
-use Rattle.std.proofs.Common.{◌≡◌, rules}
+use Rattle.std.proofs.Common.{◌≡◌, false, rules}
 use Rattle.quick_cache_guard.proofs.entry_tasks.entry_future.EntryFuture.go_on.Goals as goal
 
 -- query and callback are those of the call
@@ -20,3 +20,21 @@ returns-in-Ready-None-clause-chosen g c =
     let same : c.wait.new.self.callback ≡ c.args.self.now.callback = search rules in
     let query : c.wait.new.self.query ≡ c.args.self.now.query = search rules in
     rw query at (rw same at c.come-in-Ready-None.ensures.chosen)
+
+-- what the callback leaves still fits
+pub come-requires-in-Ready-None-clause-leaves : goal.come-requires-in-Ready-None-clause-leaves
+come-requires-in-Ready-None-clause-leaves g c =
+    let same : c.wait.new.self.callback ≡ c.args.self.now.callback = search rules in
+    let begins : c.args.self.now.is_finished ≡ false = search rules in
+    rw same (c.requires.leaves begins)
+
+-- and whoever looks again was told so
+pub returns-in-Looks-clause-again : goal.returns-in-Looks-clause-again
+returns-in-Looks-clause-again g c =
+    let query : c.self.inside.query.now ≡ c.args.self.now.query = search rules in
+    rw query at c.come.ensures.again
+
+pub returns-in-Ready-None-clause-again : goal.returns-in-Ready-None-clause-again
+returns-in-Ready-None-clause-again g c =
+    let query : c.wait.new.self.query ≡ c.args.self.now.query = search rules in
+    rw query at c.come-in-Ready-None.ensures.again
