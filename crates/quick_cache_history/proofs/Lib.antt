@@ -1,0 +1,3 @@
+pub mod PrefixLemmas
+pub mod CountLemmas
+pub mod PastLemmas

@@ -1,0 +1,13 @@
+//! One history for a cache in shards that threads share: each write of it once, on the shard of its
+//! key. The history exists in the proofs alone.
+#![tactic(auto)]
+
+mod entry;
+mod head;
+mod law;
+mod past;
+mod seat;
+
+pub use entry::Entry;
+pub use law::{Law, Naming};
+pub use seat::Seat;

@@ -1,0 +1,125 @@
+//! What a shard behind its lock knows of the history.
+ghost use Rattle.std.specs.Prelude.{◌≡◌, [], true};
+ghost use Rattle.quick_cache_model.specs.declared.calls.call.Call.{Call};
+ghost use Rattle.quick_cache_model.specs.declared.calls.reply.Reply.{Reply};
+ghost use Rattle.quick_cache_history.specs.declared.entry.Entry.{Entry};
+ghost use Rattle.quick_cache_history.specs.Histories.{is_of};
+ghost use Rattle.quick_cache_history.specs.Pasts.{Adds, Sees};
+
+use crate::entry::Entry;
+use crate::head::Head;
+use crate::law::{Add, Inserted, Law, Look, Naming, Nothing, Removed};
+use crate::seat::Seat;
+use logbook::{Offer, Seen};
+use std::marker::{Model, PhantomData};
+use std::sync::Wait;
+
+/// A beginning of the history in which all calls of a shard are.
+#[derive(Drop)]
+pub(crate) struct Past<K, V, J: Naming> {
+    shard: u64,
+    calls: u64,
+    seen: Seen<Entry<K, V>, u64, Law<K, V>>,
+    of: PhantomData<J>,
+}
+
+impl<K, V, J: Naming> Model for Past<K, V, J> {
+    ghost use Rattle.std.specs.Prelude.{◌≡◌, ◌<◌, [], length};
+    ghost use Rattle.quick_cache_history.specs.Histories.{calls_of, shards_in};
+    ghost use Rattle.quick_cache_history.specs.Pasts.{Known};
+
+    ghost Value = { Known K V };
+
+    ghost view = { λ past. record { shard = past.shard; log = past.seen.log } };
+
+    ghost invariant = { λ past. (past.calls ≡ length (calls_of past.shard past.seen.log))
+        × (past.shard < shards_in past.seen.log) × (past.seen.book ≡ J.book)
+        × (past.seen.names ≡ []) };
+}
+
+impl<K, V, J: Naming> Past<K, V, J> {
+    /// An insert of this shard, as an entry.
+    pub(crate) fn inserted(
+        &self,
+        key: &K,
+        value: &V,
+    ) -> Offer<Entry<K, V>, u64, Law<K, V>, Nothing>
+        ensures asks { result.ask ≡
+            Entry.Made self.now.shard (Call.Insert key.now value.now) Reply.Done }
+        ensures names { result.names ≡ [] }
+    {
+        self.seen
+            .plain::<Nothing, (u64, &K, &V), Inserted>(&(self.shard, key, value))
+    }
+
+    /// A removal from this shard, as an entry.
+    pub(crate) fn removed(
+        &self,
+        key: &K,
+        pair: &Option<(K, V)>,
+    ) -> Offer<Entry<K, V>, u64, Law<K, V>, Nothing>
+        ensures asks { result.ask ≡
+            Entry.Made self.now.shard (Call.Remove key.now) (Reply.Pair pair.now) }
+        ensures names { result.names ≡ [] }
+    {
+        self.seen
+            .plain::<Nothing, (u64, &K, &Option<(K, V)>), Removed>(&(self.shard, key, pair))
+    }
+
+    /// Adds a call of this shard at the end of the history, which the seat has seen then.
+    pub(crate) fn add<R: Wait>(
+        &mut self,
+        rt: &R,
+        head: &Head<K, V, J>,
+        seat: &mut Seat<K, V, J>,
+        mut offer: Offer<Entry<K, V>, u64, Law<K, V>, Nothing>,
+    )
+        requires own { is_of self.old.shard offer.ask ≡ true }
+        requires names { offer.names ≡ [] }
+        ensures adds { Adds self.old seat.old offer.ask seat.new }
+        ensures knows { self.new ≡ record self.old { log = seat.new } }
+    {
+        let calls = self.calls;
+        // No clause says which lock has this past, nor that no other step counts here.
+        if head.number == self.shard && calls != u64::MAX {
+            let mut seen = seat.seen.again();
+            seen.learn(&self.seen);
+            let mut pen = seen.no_pen();
+            let found = head
+                .word
+                .compare_exchange::<Add, Nothing>(
+                    calls,
+                    calls + 1,
+                    &mut seen,
+                    &mut offer,
+                    &mut pen,
+                );
+            if found == calls {
+                seat.seen = seen.again();
+                self.seen = seen;
+                self.calls = calls + 1;
+                return;
+            }
+        }
+        for _ in rt.forever() {}
+        unreachable!()
+    }
+
+    /// Shows the seat all that it had seen and the calls of this shard.
+    pub(crate) fn show<R: Wait>(&self, rt: &R, head: &Head<K, V, J>, seat: &mut Seat<K, V, J>)
+        ensures sees { Sees self.now seat.old seat.new }
+    {
+        if head.number == self.shard {
+            let mut seen = seat.seen.again();
+            seen.learn(&self.seen);
+            let mut offer = seen.plain::<Nothing, (), Look>(&());
+            let found = head.word.load::<Look, Nothing>(&mut seen, &mut offer);
+            if found == self.calls {
+                seat.seen = seen;
+                return;
+            }
+        }
+        for _ in rt.forever() {}
+        unreachable!()
+    }
+}
