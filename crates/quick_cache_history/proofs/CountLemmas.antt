@@ -8,7 +8,7 @@ use mathlib.Core.List.{IsPrefix}
 use prog.Atomic.{either}
 use Rattle.logbook.specs.Pages.{Cell, cell, keeps, no_nib, step, Moves, Goes}
 use Rattle.quick_cache_history.specs.declared.entry.Entry.{Entry}
-use Rattle.quick_cache_history.specs.Histories.{shards_in, is_of, calls_of}
+use Rattle.quick_cache_history.specs.Histories.{shards_in, first_in, is_of, calls_of}
 use Rattle.quick_cache_history.specs.Laws.{IsCounted, FindsCount, AddsBehind, AddsCall}
 use Rattle.quick_cache_history.proofs.PrefixLemmas.{prefix-whole}
 
@@ -17,8 +17,15 @@ module _ {K V : Type 0} where
   pub shards_in-longer : (shard : ℕ) (old new : List (Entry K V)) → IsPrefix old new
       → shard < shards_in old → shards_in new ≡ shards_in old
   shards_in-longer shard [] new p within = absurd (omega arith)
-  shards_in-longer shard (Entry.Opened shards ∷ old) new p within = sym (ap shards_in p.1)
+  shards_in-longer shard (Entry.Opened options sizes ∷ old) new p within = sym (ap shards_in p.1)
   shards_in-longer shard (Entry.Made own call reply ∷ old) new p within = absurd (omega arith)
+
+  -- and so is how each began
+  pub first_in-longer : (shard : ℕ) (old new : List (Entry K V)) → IsPrefix old new
+      → shard < shards_in old → first_in new ≡ first_in old
+  first_in-longer shard [] new p within = absurd (omega arith)
+  first_in-longer shard (Entry.Opened options sizes ∷ old) new p within = sym (ap first_in p.1)
+  first_in-longer shard (Entry.Made own call reply ∷ old) new p within = absurd (omega arith)
 
   -- a longer history has the calls of the shorter one first
   pub calls_of-longer : (shard : ℕ) (old new : List (Entry K V)) → IsPrefix old new
@@ -46,7 +53,7 @@ module _ {K V : Type 0} where
   -- and none more of another
   is_of-other : (shard other : ℕ) (entry : Entry K V) → is_of shard entry ≡ true → other ≢ shard
       → is_of other entry ≡ false
-  is_of-other shard other (Entry.Opened shards) own apart = refl
+  is_of-other shard other (Entry.Opened options sizes) own apart = refl
   is_of-other shard other (Entry.Made number call reply) own apart = grind (arith, nat_tests)
 
   pub calls_of-other : (shard other : ℕ) (log : List (Entry K V)) (entry : Entry K V)

@@ -2,6 +2,8 @@
 
 use crate::entry::Entry;
 use logbook::{Gain, Opening, Plain, Play, Rule};
+use quick_cache_options::Options;
+use quick_cache_options::sizes::ShardSizes;
 use std::marker::{Brand, PhantomData};
 
 /// The word of each shard counts the calls of that shard in the history.
@@ -27,14 +29,14 @@ impl<K, V> Rule<Entry<K, V>, u64> for Law<K, V> {
     ghost moves = { λ ask before after answer. Unit {0} };
 }
 
-/// The history begins with the number of the words.
-pub(crate) struct Row;
+/// The history begins with what the cache is made with.
+pub(crate) struct Opened;
 
-impl<K, V> Opening<(), Entry<K, V>> for Row {
+impl<'a, K, V> Opening<(&'a Options, ShardSizes), Entry<K, V>> for Opened {
     ghost use Rattle.std.specs.Prelude.{[], ◌∷◌};
     ghost use Rattle.quick_cache_history.specs.declared.entry.Entry.{Entry};
 
-    ghost log = { λ count about. Entry.Opened count ∷ [] };
+    ghost log = { λ count about. Entry.Opened about.0.now about.1 ∷ [] };
 }
 
 /// Which history it is. Each use of a cache picks it.
@@ -66,12 +68,14 @@ impl<K, V> Play<Entry<K, V>, u64> for Look {
     ghost then = { FindsCount };
 }
 
-/// A look adds no call.
+/// A look adds nothing, whatever it is said to ask.
 impl<K, V> Plain<(), Entry<K, V>, u64> for Look {
     ghost use Rattle.std.specs.Prelude.{None};
+    ghost use Rattle.quick_cache_model.specs.declared.calls.call.Call.{Call};
+    ghost use Rattle.quick_cache_model.specs.declared.calls.reply.Reply.{Reply};
     ghost use Rattle.quick_cache_history.specs.declared.entry.Entry.{Entry};
 
-    ghost ask = { λ about. Entry.Opened 0 };
+    ghost ask = { λ about. Entry.Made 0 Call.Counts Reply.Done };
 
     ghost state = { λ about. None };
 }

@@ -1,10 +1,10 @@
 //! What a shard behind its lock knows of the history.
-ghost use Rattle.std.specs.Prelude.{◌≡◌, [], true};
+ghost use Rattle.std.specs.Prelude.{◌≡◌, ◌++◌, ◌∷◌, [], true};
+ghost use mathlib.Core.List.{IsPrefix};
 ghost use Rattle.quick_cache_model.specs.declared.calls.call.Call.{Call};
 ghost use Rattle.quick_cache_model.specs.declared.calls.reply.Reply.{Reply};
 ghost use Rattle.quick_cache_history.specs.declared.entry.Entry.{Entry};
-ghost use Rattle.quick_cache_history.specs.Histories.{is_of};
-ghost use Rattle.quick_cache_history.specs.Pasts.{Adds, Sees};
+ghost use Rattle.quick_cache_history.specs.Histories.{Extends, calls_of, first_in, is_of};
 
 use crate::entry::Entry;
 use crate::head::Head;
@@ -76,7 +76,12 @@ impl<K, V, J: Naming> Past<K, V, J> {
     )
         requires own { is_of self.old.shard offer.ask ≡ true }
         requires names { offer.names ≡ [] }
-        ensures adds { Adds self.old seat.old offer.ask seat.new }
+        ensures extends { Extends seat.old offer.ask seat.new }
+        // The call is the only one of the shard since.
+        ensures one_more { calls_of self.old.shard seat.new
+            ≡ calls_of self.old.shard self.old.log ++ offer.ask ∷ [] }
+        ensures first { first_in seat.new ≡ first_in self.old.log }
+        ensures number { head.now.number ≡ self.old.shard }
         ensures knows { self.new ≡ record self.old { log = seat.new } }
     {
         let calls = self.calls;
@@ -107,7 +112,10 @@ impl<K, V, J: Naming> Past<K, V, J> {
 
     /// Shows the seat all that it had seen and the calls of this shard.
     pub(crate) fn show<R: Wait>(&self, rt: &R, head: &Head<K, V, J>, seat: &mut Seat<K, V, J>)
-        ensures sees { Sees self.now seat.old seat.new }
+        ensures longer { IsPrefix seat.old seat.new }
+        ensures same { calls_of self.now.shard seat.new ≡ calls_of self.now.shard self.now.log }
+        ensures first { first_in seat.new ≡ first_in self.now.log }
+        ensures number { head.now.number ≡ self.now.shard }
     {
         if head.number == self.shard {
             let mut seen = seat.seen.again();
