@@ -1,11 +1,13 @@
 -- Histories that grow, and the words that count their calls.
-use Rattle.std.proofs.Common.{◌≡◌, ◌≢◌, cond, ◌≤◌, ◌<◌, ◌+◌, ◌==◌, ◌⊎◌, ℕ, Bool, true, false, List, [], ◌∷◌, ◌++◌, Option, length, filter, MatchBool, refl, ap, sym, subst, ◌∙◌, arith, inl, inr, slice_set, length-append}
-use Rattle.std.proofs.lemmas.List.{append-nil, length-set, get_or-set_same, get_or-set_other}
+use Rattle.std.proofs.Common.{◌≡◌, ◌≢◌, cond, ◌≤◌, ◌<◌, ◌+◌, ◌==◌, ◌⊎◌, ℕ, Bool, true, false, List, [], ◌∷◌, ◌++◌, Option, length, filter, MatchBool, refl, ap, sym, subst, ◌∙◌, arith, inl, inr, slice_set, length-append, replicate}
+use Rattle.std.proofs.lemmas.List.{append-nil, length-replicate, get_or-replicate, length-set, get_or-set_same, get_or-set_other}
 use Rattle.std.proofs.lemmas.List.Elements.{filter-append}
 use Rattle.std.proofs.lemmas.Bool.{cases_eq}
 use Rattle.std.proofs.lemmas.Bool.Decides.{nat_tests}
 use mathlib.Core.List.{IsPrefix}
 use prog.Atomic.{either}
+use Rattle.quick_cache_options.specs.Options.{Settings}
+use Rattle.quick_cache_options.specs.declared.sizes.ShardSizes.{ShardSizes}
 use Rattle.logbook.specs.Pages.{Cell, cell, keeps, no_nib, step, Moves, Goes}
 use Rattle.quick_cache_history.specs.declared.entry.Entry.{Entry}
 use Rattle.quick_cache_history.specs.Histories.{shards_in, first_in, is_of, calls_of}
@@ -178,3 +180,14 @@ module _ {K V : Type 0} where
         ap (λ c. c.1) (counted.counts shard (has_word words log counted longer)),
         add_goes words log counted longer ((cell words shard).0 == calls) refl,
       )
+
+-- a history begins with words that hold 0
+pub opening_counted : {K V : Type 0} (options : Settings) (sizes : ShardSizes)
+    → IsCounted {K = K} {V = V} (replicate sizes.shards (0, true)) (Entry.Opened options sizes ∷ [])
+opening_counted options sizes =
+    let nought : Cell = (0, true) in
+    record {
+      row = length-replicate sizes.shards nought;
+      counts = λ shard lt. get_or-replicate sizes.shards shard nought (0, false)
+          (omega (arith, lt, length-replicate sizes.shards nought));
+    }

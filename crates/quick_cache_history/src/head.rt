@@ -1,10 +1,10 @@
 //! The word beside a lock, which counts the calls of its shard.
-ghost use Rattle.std.specs.Prelude.{◌≡◌};
+ghost use Rattle.std.specs.Prelude.{◌≡◌, ◌+◌, ◌-◌, ◌<◌};
 ghost use Rattle.quick_cache_history.specs.Laws.{word_of};
 
 use crate::entry::Entry;
 use crate::law::{Law, Naming};
-use logbook::Word;
+use logbook::{Pens, Word};
 use std::marker::PhantomData;
 
 /// The word of the shard of this number.
@@ -14,4 +14,24 @@ pub(crate) struct Head<K, V, J: Naming> {
     pub(crate) word: Word<Entry<K, V>, u64, Law<K, V>>,
     of: PhantomData<J>,
     pub(crate) ghost word_is: { word ≡ word_of J.book number },
+}
+
+impl<K, V, J: Naming> Head<K, V, J> {
+    /// The next word of the row, which is the one of this number.
+    pub(crate) fn new(number: u64, pens: &mut Pens) -> Self
+        requires book { pens.old.book ≡ J.book }
+        requires next { pens.old.next ≡ number }
+        requires left { 0 < pens.old.left }
+        ensures number { result.number ≡ number }
+        ensures book { pens.new.book ≡ pens.old.book }
+        ensures next { pens.new.next ≡ pens.old.next + 1 }
+        ensures left { pens.new.left ≡ pens.old.left - 1 }
+    {
+        let mut pen = pens.take();
+        Head {
+            number,
+            word: Word::tracked(0, &mut pen),
+            of: PhantomData,
+        }
+    }
 }

@@ -4,10 +4,12 @@
 
 mod entry;
 mod head;
+mod history;
 mod law;
 mod past;
 mod seat;
 
 pub use entry::Entry;
+pub use history::History;
 pub use law::{Law, Naming};
 pub use seat::Seat;

@@ -1,10 +1,10 @@
 //! What a shard behind its lock knows of the history.
-ghost use Rattle.std.specs.Prelude.{◌≡◌, ◌++◌, ◌∷◌, [], true};
+ghost use Rattle.std.specs.Prelude.{◌≡◌, ◌<◌, ◌++◌, ◌∷◌, [], true};
 ghost use mathlib.Core.List.{IsPrefix};
 ghost use Rattle.quick_cache_model.specs.declared.calls.call.Call.{Call};
 ghost use Rattle.quick_cache_model.specs.declared.calls.reply.Reply.{Reply};
 ghost use Rattle.quick_cache_history.specs.declared.entry.Entry.{Entry};
-ghost use Rattle.quick_cache_history.specs.Histories.{Extends, calls_of, first_in, is_of};
+ghost use Rattle.quick_cache_history.specs.Histories.{Extends, calls_of, first_in, is_of, shards_in};
 
 use crate::entry::Entry;
 use crate::head::Head;
@@ -38,6 +38,22 @@ impl<K, V, J: Naming> Model for Past<K, V, J> {
 }
 
 impl<K, V, J: Naming> Past<K, V, J> {
+    /// What a shard knows that had no call.
+    pub(crate) fn new(shard: u64, seen: Seen<Entry<K, V>, u64, Law<K, V>>) -> Self
+        requires book { seen.book ≡ J.book }
+        requires names { seen.names ≡ [] }
+        requires some { shard < shards_in seen.log }
+        requires none { calls_of shard seen.log ≡ [] }
+        ensures { result ≡ record { shard = shard; log = seen.log } }
+    {
+        Past {
+            shard,
+            calls: 0,
+            seen,
+            of: PhantomData,
+        }
+    }
+
     /// An insert of this shard, as an entry.
     pub(crate) fn inserted(
         &self,

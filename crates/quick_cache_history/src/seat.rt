@@ -1,5 +1,5 @@
 //! Seats: who makes calls, and what it has seen.
-ghost use Rattle.std.specs.Prelude.{◌≡◌};
+ghost use Rattle.std.specs.Prelude.{◌≡◌, []};
 ghost use mathlib.Core.List.{IsPrefix};
 
 use crate::entry::Entry;
@@ -26,6 +26,18 @@ impl<K, V, J: Naming> Model for Seat<K, V, J> {
 }
 
 impl<K, V, J: Naming> Seat<K, V, J> {
+    /// A seat that has seen this.
+    pub(crate) fn new(seen: Seen<Entry<K, V>, u64, Law<K, V>>) -> Self
+        requires book { seen.book ≡ J.book }
+        requires names { seen.names ≡ [] }
+        ensures { result ≡ seen.log }
+    {
+        Seat {
+            seen,
+            of: PhantomData,
+        }
+    }
+
     /// A seat that has seen as much.
     pub fn tell(&self) -> Self
         ensures { result ≡ self.now }
