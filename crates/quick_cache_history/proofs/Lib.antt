@@ -1,3 +1,5 @@
-pub mod PrefixLemmas
-pub mod CountLemmas
-pub mod PastLemmas
+mod CountLemmas
+mod KeptLemmas
+mod PastLemmas
+mod PrefixLemmas
+mod SeatLemmas

@@ -32,7 +32,7 @@ module _ {K V S : Type 0} (rules : Rules K V) (equal : K → K → Bool) (hooks 
   -- an entry that is a call
   abbrev pub IsStep : CacheState K V → Entry K V → CacheState K V → Type 0
   IsStep old (Entry.Opened options sizes) new = ⊥
-  IsStep old (Entry.Made shard call reply) new = IsMade old call reply new
+  IsStep old (Entry.Made turn next shard call reply) new = IsMade old call reply new
 
   -- The calls lead from the first state to this one: there are none, or those before the last lead
   -- to some state, from which the last is a step to this one.

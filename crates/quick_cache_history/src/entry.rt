@@ -8,7 +8,7 @@ use quick_cache_options::sizes::ShardSizes;
 pub enum Entry<K, V> {
     /// A cache was made, of these options and sizes.
     Opened(Options, ShardSizes),
-    /// A call was made of the shard of this number, with this reply. A predicate stands in it as what
-    /// it answered.
-    Made(u64, Call<K, V, bool>, Reply<K, V>),
+    /// In the first turn a call was made, and the second is the caller's next. It was made of the
+    /// shard of the third number, with this reply.
+    Made(u64, u64, u64, Call<K, V, bool>, Reply<K, V>),
 }

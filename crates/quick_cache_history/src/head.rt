@@ -1,10 +1,13 @@
 //! The word beside a lock, which counts the calls of its shard.
-ghost use Rattle.std.specs.Prelude.{◌≡◌, ◌+◌, ◌-◌, ◌<◌};
+ghost use Rattle.std.specs.Prelude.{◌≡◌, ◌+◌, ◌-◌, ◌<◌, []};
+ghost use mathlib.Core.List.{IsPrefix};
+ghost use Rattle.quick_cache_history.specs.Histories.{calls_in, shards_in};
 ghost use Rattle.quick_cache_history.specs.Laws.{word_of};
 
 use crate::entry::Entry;
-use crate::law::{Law, Naming};
-use logbook::{Pens, Word};
+use crate::law::{Law, Look, Naming, Nothing, Take};
+use crate::turn::Turn;
+use logbook::{Pens, Seen, Word};
 use std::marker::PhantomData;
 
 /// The word of the shard of this number.
@@ -33,5 +36,28 @@ impl<K, V, J: Naming> Head<K, V, J> {
             word: Word::tracked(0, &mut pen),
             of: PhantomData,
         }
+    }
+
+    /// Takes a turn, and tells the word of it.
+    pub(crate) fn take(
+        &self,
+        seen: &mut Seen<Entry<K, V>, u64, Law<K, V>>,
+    ) -> (Turn<J>, Word<Entry<K, V>, u64, Law<K, V>>)
+        requires book { seen.old.book ≡ J.book }
+        requires names { seen.old.names ≡ [] }
+        requires number { self.now.number < shards_in seen.old.log }
+        ensures longer { IsPrefix seen.old.log seen.new.log }
+        ensures book { seen.new.book ≡ J.book }
+        ensures names { seen.new.names ≡ [] }
+        ensures word { result.1.key ≡ result.0 }
+        ensures unused { calls_in result.0 seen.new.log ≡ [] }
+    {
+        let mut pen = seen.no_pen();
+        let mut offer = seen.plain::<Nothing, (), Look>(&());
+        let _ = self
+            .word
+            .compare_exchange::<Take, Nothing>(0, 0, seen, &mut offer, &mut pen);
+        let word = Word::tracked(0, &mut pen);
+        (Turn::new(pen), word)
     }
 }

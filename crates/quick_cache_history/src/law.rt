@@ -1,6 +1,7 @@
 //! The rule of a history, and the steps by which it grows.
 
 use crate::entry::Entry;
+use crate::turn::Turn;
 use logbook::{Gain, Opening, Plain, Play, Rule};
 use quick_cache_options::Options;
 use quick_cache_options::sizes::ShardSizes;
@@ -75,7 +76,7 @@ impl<K, V> Plain<(), Entry<K, V>, u64> for Look {
     ghost use Rattle.quick_cache_model.specs.declared.calls.reply.Reply.{Reply};
     ghost use Rattle.quick_cache_history.specs.declared.entry.Entry.{Entry};
 
-    ghost ask = { λ about. Entry.Made 0 Call.Counts Reply.Done };
+    ghost ask = { λ about. Entry.Made 0 0 0 Call.Counts Reply.Done };
 
     ghost state = { λ about. None };
 }
@@ -92,13 +93,15 @@ impl<K, V> Play<Entry<K, V>, u64> for Add {
 /// An insert that was made.
 pub(crate) struct Inserted;
 
-impl<'a, K, V> Plain<(u64, &'a K, &'a V), Entry<K, V>, u64> for Inserted {
+impl<'a, K, V, J: Naming> Plain<(&'a Turn<J>, &'a Turn<J>, u64, &'a K, &'a V), Entry<K, V>, u64>
+    for Inserted {
     ghost use Rattle.std.specs.Prelude.{None};
     ghost use Rattle.quick_cache_model.specs.declared.calls.call.Call.{Call};
     ghost use Rattle.quick_cache_model.specs.declared.calls.reply.Reply.{Reply};
     ghost use Rattle.quick_cache_history.specs.declared.entry.Entry.{Entry};
 
-    ghost ask = { λ about. Entry.Made about.0 (Call.Insert about.1.now about.2.now) Reply.Done };
+    ghost ask = { λ about. Entry.Made about.0.now about.1.now about.2
+        (Call.Insert about.3.now about.4.now) Reply.Done };
 
     ghost state = { λ about. None };
 }
@@ -106,13 +109,27 @@ impl<'a, K, V> Plain<(u64, &'a K, &'a V), Entry<K, V>, u64> for Inserted {
 /// A removal that was made, and what it gave.
 pub(crate) struct Removed;
 
-impl<'a, K, V> Plain<(u64, &'a K, &'a Option<(K, V)>), Entry<K, V>, u64> for Removed {
+impl<'a, K, V, J: Naming> Plain<
+    (&'a Turn<J>, &'a Turn<J>, u64, &'a K, &'a Option<(K, V)>),
+    Entry<K, V>,
+    u64,
+> for Removed {
     ghost use Rattle.std.specs.Prelude.{None};
     ghost use Rattle.quick_cache_model.specs.declared.calls.call.Call.{Call};
     ghost use Rattle.quick_cache_model.specs.declared.calls.reply.Reply.{Reply};
     ghost use Rattle.quick_cache_history.specs.declared.entry.Entry.{Entry};
 
-    ghost ask = { λ about. Entry.Made about.0 (Call.Remove about.1.now) (Reply.Pair about.2.now) };
+    ghost ask = { λ about. Entry.Made about.0.now about.1.now about.2 (Call.Remove about.3.now)
+        (Reply.Pair about.4.now) };
 
     ghost state = { λ about. None };
+}
+
+/// A step that takes a turn.
+pub(crate) struct Take;
+
+impl<K, V> Play<Entry<K, V>, u64> for Take {
+    ghost use Rattle.quick_cache_history.specs.Laws.{TakesTurn};
+
+    ghost then = { TakesTurn };
 }

@@ -5,11 +5,15 @@
 mod entry;
 mod head;
 mod history;
+mod kept;
 mod law;
 mod past;
+mod recorded;
 mod seat;
+mod turn;
 
 pub use entry::Entry;
 pub use history::History;
 pub use law::{Law, Naming};
+pub use recorded::Recorded;
 pub use seat::Seat;

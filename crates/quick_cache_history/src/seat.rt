@@ -1,57 +1,73 @@
 //! Seats: who makes calls, and what it has seen.
 ghost use Rattle.std.specs.Prelude.{◌≡◌, []};
 ghost use mathlib.Core.List.{IsPrefix};
+ghost use Rattle.quick_cache_history.specs.Histories.{calls_in};
 
 use crate::entry::Entry;
 use crate::law::{Law, Naming};
-use logbook::Seen;
-use std::marker::{Model, PhantomData};
+use crate::turn::Turn;
+use logbook::{Seen, Word};
+use std::marker::Model;
 
-/// Who makes calls of a cache. Contracts see it as the beginning of the history that it has seen.
+/// Who makes calls of a cache. Contracts see the beginning of the history that it has seen, and the
+/// calls that it made.
 #[derive(Drop)]
 pub struct Seat<K, V, J: Naming> {
     pub(crate) seen: Seen<Entry<K, V>, u64, Law<K, V>>,
-    of: PhantomData<J>,
+    // What it had seen at its last call.
+    pub(crate) own: Seen<Entry<K, V>, u64, Law<K, V>>,
+    pub(crate) turn: Turn<J>,
+    // The word of its first turn.
+    pub(crate) first: Word<Entry<K, V>, u64, Law<K, V>>,
 }
 
 impl<K, V, J: Naming> Model for Seat<K, V, J> {
     ghost use Rattle.std.specs.Prelude.{◌≡◌, [], List};
-    ghost use Rattle.quick_cache_history.specs.declared.entry.Entry.{Entry};
+    ghost use Rattle.quick_cache_history.specs.Histories.{calls_from, turn_after};
+    ghost use Rattle.quick_cache_history.specs.Seats.{Caller};
+    ghost use mathlib.Core.List.{IsPrefix};
 
-    ghost Value = { List (Entry K V) };
+    ghost Value = { Caller K V };
 
-    ghost view = { λ seat. seat.seen.log };
+    ghost view = { λ seat. record {
+      first = seat.first.key;
+      turn = seat.turn;
+      seen = seat.seen.log;
+      mine = calls_from seat.first.key seat.own.log;
+    } };
 
-    ghost invariant = { λ seat. (seat.seen.book ≡ J.book) × (seat.seen.names ≡ []) };
+    ghost invariant = { λ seat. (seat.seen.book ≡ J.book) × (seat.seen.names ≡ [])
+        × IsPrefix seat.own.log seat.seen.log
+        × (turn_after seat.first.key seat.own.log ≡ seat.turn) };
 }
 
 impl<K, V, J: Naming> Seat<K, V, J> {
-    /// A seat that has seen this.
-    pub(crate) fn new(seen: Seen<Entry<K, V>, u64, Law<K, V>>) -> Self
+    /// A seat that has seen this, with a turn that was not used.
+    pub(crate) fn new(
+        seen: Seen<Entry<K, V>, u64, Law<K, V>>,
+        turn: Turn<J>,
+        first: Word<Entry<K, V>, u64, Law<K, V>>,
+    ) -> Self
         requires book { seen.book ≡ J.book }
         requires names { seen.names ≡ [] }
-        ensures { result ≡ seen.log }
+        requires first { first.key ≡ turn }
+        requires unused { calls_in turn seen.log ≡ [] }
+        ensures seen { result.seen ≡ seen.log }
+        ensures none { result.mine ≡ [] }
     {
         Seat {
+            own: seen.again(),
             seen,
-            of: PhantomData,
-        }
-    }
-
-    /// A seat that has seen as much.
-    pub fn tell(&self) -> Self
-        ensures { result ≡ self.now }
-    {
-        Seat {
-            seen: self.seen.again(),
-            of: PhantomData,
+            turn,
+            first,
         }
     }
 
     /// Afterwards it has seen what both had seen.
     pub fn learn(&mut self, other: &Self)
-        ensures own { IsPrefix self.old self.new }
-        ensures others { IsPrefix other.now self.new }
+        ensures own { IsPrefix self.old.seen self.new.seen }
+        ensures others { IsPrefix other.now.seen self.new.seen }
+        ensures same { self.new ≡ record self.old { seen = self.new.seen } }
     {
         self.seen.learn(&other.seen);
     }

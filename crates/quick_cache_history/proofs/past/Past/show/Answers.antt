@@ -9,26 +9,28 @@ use Rattle.quick_cache_history.proofs.past.Past.show.Goals as goal
 pub returns-then-found-self-clause-same : goal.returns-then-found-self-clause-same
 returns-then-found-self-clause-same g c =
     let past = c.self.inside in
+    let seat = c.seat.inside in
     let both = c.learn.new.self.log in
     let new = c.load-found.new.seen.log in
-    let mine : IsPrefix c.seat.inside.seen.log both = subst (λ (l : List (Entry _ _)). IsPrefix l both)
-        (ap (λ s. s.log) c.again-seen.ensures) c.learn.ensures.2 in
+    let mine : IsPrefix seat.seen.log both = subst (λ (l : List (Entry _ _)). IsPrefix l both)
+    (ap (λ s. s.log) c.again-seen.ensures) c.learn.ensures.2 in
     let key : c.args.head.now.word.key ≡ past.shard =
-        ap (λ w. w.key) c.args.head.now.word_is ∙ c.if-head-self.true in
+    ap (λ w. w.key) c.args.head.now.word_is ∙ c.if-head-self.true in
     let same : past.calls ≡ length (calls_of past.shard new) =
-        sym c.if-found-self.true ∙ c.load-found.ensures.6.1
-        ∙ ap (λ k. length (calls_of k new)) key in
+    sym c.if-found-self.true ∙ c.load-found.ensures.6.1
+    ∙ ap (λ k. length (calls_of k new)) key in
     rw (← c.self.view_is)
-    (same-calls past.shard past.calls past.seen.log c.seat.inside.seen.log both new mine
+    (same-calls past.shard past.calls past.seen.log seat.seen.log both new mine
     c.learn.ensures.3 c.self.invariant.0 c.load-found.ensures.5 c.self.invariant.1 same)
 
 pub returns-then-found-self-clause-first : goal.returns-then-found-self-clause-first
 returns-then-found-self-clause-first g c =
     let past = c.self.inside in
+    let seat = c.seat.inside in
     let both = c.learn.new.self.log in
     let new = c.load-found.new.seen.log in
-    let mine : IsPrefix c.seat.inside.seen.log both = subst (λ (l : List (Entry _ _)). IsPrefix l both)
-        (ap (λ s. s.log) c.again-seen.ensures) c.learn.ensures.2 in
+    let mine : IsPrefix seat.seen.log both = subst (λ (l : List (Entry _ _)). IsPrefix l both)
+    (ap (λ s. s.log) c.again-seen.ensures) c.learn.ensures.2 in
     rw (← c.self.view_is)
-    (same-first past.shard past.calls past.seen.log c.seat.inside.seen.log both new mine
+    (same-first past.shard past.calls past.seen.log seat.seen.log both new mine
     c.learn.ensures.3 c.self.invariant.0 c.load-found.ensures.5 c.self.invariant.1)
