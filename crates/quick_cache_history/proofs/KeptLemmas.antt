@@ -1,5 +1,5 @@
 -- A shard that stands at the end of its calls, and one call more.
-use Rattle.std.proofs.Common.{◌≡◌, ℕ, Bool, List, [], ◌∷◌, ◌++◌, Option, None, refl, sym, ap, subst}
+use Rattle.std.proofs.Common.{◌≡◌, ℕ, Bool, List, [], ◌∷◌, ◌++◌, Option, None, sym, subst}
 use Rattle.quick_cache_model.specs.CacheState.{CacheState, UpToOrder}
 use Rattle.quick_cache_model.specs.CacheStep.{CacheStep}
 use Rattle.quick_cache_model.specs.Hooks.{Rules, Hooks}
@@ -15,22 +15,30 @@ use Rattle.quick_cache_shard.specs.Steps.{Goes, steady_in, hooks_in, rules_in}
 use Rattle.quick_cache_history.specs.declared.entry.Entry.{Entry}
 use Rattle.quick_cache_history.specs.Histories.{first_in, calls_of}
 use Rattle.quick_cache_history.specs.KeptShards.{StandsAtEnd}
-use Rattle.quick_cache_history.specs.Runs.{AreTold, IsMade, IsStep, Lead}
+use Rattle.quick_cache_history.specs.Runs.{AreTold, IsStep, Lead}
 
 module _ {K V We B L S : Type 0} (goes : Goes K V We B L S) (is_default : S → Type 0)
-    (equal : K → K → Bool) (number : ℕ) (log new : List (Entry K V))
-    (first : first_in new ≡ first_in log) where
+    (equal : K → K → Bool) (number : ℕ) (log : List (Entry K V)) where
   -- a run of these calls from that state, by the rules and the hooks of such terms
   abbrev Runs : (state : CacheState K V) → Terms We B L × CacheState K V × List (Entry K V) → Type 0
   Runs state x = Lead (rules_by goes any_touches x.0) equal (goes.hooks x.0) is_default x.1 x.2 state
 
-  module _ (old left : Shard K V We B L) (same : terms_of left ≡ terms_of old)
+  -- before the first call
+  pub StandsAtEnd-begins : (shard : Shard K V We B L) → calls_of number log ≡ []
+      → shard.state ≡ first_in log → StandsAtEnd goes is_default equal number log shard
+  StandsAtEnd-begins shard none empty steady = subst
+      (λ (x : CacheState K V × List (Entry K V)). Lead (rules_in goes any_touches shard) equal
+      (hooks_in goes shard) is_default (first_in log) x.1 x.0)
+      (λ i. (sym empty i, sym none i)) Lead.begins
+
+  module _ (new : List (Entry K V)) (first : first_in new ≡ first_in log)
+      (old left : Shard K V We B L) (same : terms_of left ≡ terms_of old)
       (stands : StandsAtEnd goes is_default equal number log old) where
     -- where no call more of the shard is there, it stands where it stood
     pub StandsAtEnd-same : calls_of number new ≡ calls_of number log → left.state ≡ old.state
         → StandsAtEnd goes is_default equal number new left
-    StandsAtEnd-same calls state steady = subst (λ s. Runs s (terms_of left, (first_in new, calls_of number new))) (sym state)
-        (subst (Runs old.state) (λ i. (sym same i, (sym first i, sym calls i)))
+    StandsAtEnd-same calls state steady = subst (λ s. Runs s (terms_of left, first_in new, calls_of number new)) (sym state)
+        (subst (Runs old.state) (λ i. (sym same i, sym first i, sym calls i))
         (stands (subst goes.steady same steady)))
 
     -- and where one more is, it made the step
@@ -41,15 +49,16 @@ module _ {K V We B L S : Type 0} (goes : Goes K V We B L S) (is_default : S → 
         → StandsAtEnd goes is_default equal number new left
     StandsAtEnd-push entry calls step steady =
         let was : steady_in goes old = subst goes.steady same steady in
-        subst (Runs left.state) (λ i. (sym same i, (sym first i, sym calls i)))
+        subst (Runs left.state) (λ i. (sym same i, sym first i, sym calls i))
         (Lead.goes_on (calls_of number log) old.state entry left.state (stands was) (step was))
 
-module _ {K V S M : Type 0} (rules : Rules K V) (equal : K → K → Bool) (hooks : Hooks K V S)
-    (is_default : S → Type 0) (old new : CacheState K V) where
+module _ {K V S : Type 0} (rules : Rules K V) (equal : K → K → Bool) (hooks : Hooks K V S)
+    (is_default : S → Type 0) (old new : CacheState K V) (turn next shard : ℕ) where
   -- an insert that was written is a step of its definition
   pub inserts : (steady : Type 0) → steady → (key : K) (value : V) (first last : S)
       → is_default first → Wrote steady hooks rules equal insertion old first key value None new last
-      → IsMade {M = M} rules equal hooks is_default old (Call.Insert key value) Reply.Done new
+      → IsStep rules equal hooks is_default old
+      (Entry.Made turn next shard (Call.Insert key value) Reply.Done) new
   inserts steady is_steady key value first last begins wrote = record {
     hook_calls = wrote.step.calls;
     step = CacheStep.inserts key value wrote.step.calls new wrote.provided
@@ -60,7 +69,8 @@ module _ {K V S M : Type 0} (rules : Rules K V) (equal : K → K → Bool) (hook
   -- and so is a removal
   pub removes : (key : K) (pair : Option (K × V))
       → UpToOrder (Removes (equal key) old (rules.hash key) pair) new
-      → IsMade {M = M} rules equal hooks is_default old (Call.Remove key) (Reply.Pair pair) new
+      → IsStep rules equal hooks is_default old
+      (Entry.Made turn next shard (Call.Remove key) (Reply.Pair pair)) new
   removes key pair step = record {
     hook_calls = [];
     step = CacheStep.removes key pair new step;

@@ -2,6 +2,7 @@ use Rattle.std.proofs.Common.{◌≡◌, ℕ, List, sym, ◌∙◌, ap, subst, l
 use mathlib.Core.List.{IsPrefix}
 use Rattle.quick_cache_history.specs.declared.entry.Entry.{Entry}
 use Rattle.quick_cache_history.specs.Histories.{calls_of}
+use Rattle.quick_cache_history.proofs.PrefixLemmas.{prefix-trans}
 use Rattle.quick_cache_history.proofs.PastLemmas.{same-calls, same-first}
 use Rattle.quick_cache_history.proofs.past.Past.show.Goals as goal
 
@@ -34,3 +35,12 @@ returns-then-found-self-clause-first g c =
     rw (← c.self.view_is)
     (same-first past.shard past.calls past.seen.log seat.seen.log both new mine
     c.learn.ensures.3 c.self.invariant.0 c.load-found.ensures.5 c.self.invariant.1)
+
+pub returns-then-found-self-clause-longer : goal.returns-then-found-self-clause-longer
+returns-then-found-self-clause-longer g c =
+    let seat = c.seat.inside in
+    let both = c.learn.new.self.log in
+    let mine : IsPrefix seat.seen.log both = subst (λ (l : List (Entry _ _)). IsPrefix l both)
+        (ap (λ s. s.log) c.again-seen.ensures) c.learn.ensures.2 in
+    rw (← c.seat.view_is)
+    (prefix-trans seat.seen.log both c.load-found.new.seen.log mine c.load-found.ensures.5)
