@@ -9,8 +9,8 @@ use Rattle.quick_cache_history.specs.Pasts.{Known}
 use Rattle.quick_cache_history.specs.Runs.{Lead}
 
 -- the shard, and a beginning of the history in which all its calls are
-pub record KeptShard (K V We B L : Type 0) : Type 0 where
-  pub shard : Shard K V We B L
+pub record KeptShard (S K V : Type 0) : Type 0 where
+  pub shard : S
   pub known : Known K V
 
 module _ {K V We B L S : Type 0} (goes : Goes K V We B L S) (is_default : S → Type 0)

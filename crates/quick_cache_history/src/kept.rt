@@ -16,47 +16,51 @@ use crate::seat::Seat;
 use quick_cache_locked::LockedShard;
 use quick_cache_model::{Equivalent, Lifecycle, Refusal, Weighter};
 use quick_cache_shard::Ruled;
-use std::alloc::{Allocator, Global};
+use std::alloc::Allocator;
 use std::hash::{BuildHasher, Hash};
 use std::marker::Model;
 use std::sync::Wait;
 
-/// A shard, which is what its calls in the history make of an empty one.
-#[derive(Drop)]
-pub(crate) struct Kept<
+/// What is made by the calls of a history.
+pub(crate) trait Stands<K, V> {
+    ghost use Rattle.std.specs.Prelude.{ℕ, List};
+    ghost use Rattle.quick_cache_history.specs.declared.entry.Entry.{Entry};
+
+    // By those of this number in this history.
+    ghost stands: { ℕ → List (Entry K V) → Self → Type 0 };
+}
+
+impl<
     K: Eq + Hash + Drop,
     V: Drop,
     We: Weighter<K, V>,
     B: BuildHasher,
     L: Lifecycle<K, V>,
-    J: Naming,
-    A: Allocator = Global,
-> {
-    shard: LockedShard<K, V, We, B, L, A>,
+    A: Allocator,
+> Stands<K, V> for LockedShard<K, V, We, B, L, A> {
+    ghost use Rattle.quick_cache_shard.specs.Goes.{goes_by};
+    ghost use Rattle.quick_cache_history.specs.KeptShards.{StandsAtEnd};
+
+    ghost stands = { StandsAtEnd
+        (goes_by K.Hash.hash_input We.Weighter B.BuildHasher B.Hasher.Hasher L.Lifecycle)
+        L.RequestState.is_default K.eq };
+}
+
+/// A shard, which is what its calls in the history make of an empty one.
+#[derive(Drop)]
+pub(crate) struct Kept<S: Stands<K, V>, K, V, J: Naming> {
+    shard: S,
     past: Past<K, V, J>,
 }
 
-impl<
-    K: Eq + Hash + Drop,
-    V: Drop,
-    We: Weighter<K, V>,
-    B: BuildHasher,
-    L: Lifecycle<K, V>,
-    J: Naming,
-    A: Allocator,
-> Model for Kept<K, V, We, B, L, J, A> {
-    ghost use Rattle.quick_cache_shard.specs.Goes.{goes_by};
-    ghost use Rattle.quick_cache_history.specs.KeptShards.{KeptShard, StandsAtEnd};
+impl<S: Stands<K, V>, K, V, J: Naming> Model for Kept<S, K, V, J> {
+    ghost use Rattle.quick_cache_history.specs.KeptShards.{KeptShard};
 
-    ghost Value = { KeptShard K V We B L };
+    ghost Value = { KeptShard S K V };
 
     ghost view = { λ kept. record { shard = kept.shard; known = kept.past } };
 
-    // An invariant cannot quote an impl at type parameters, so what the shard goes by is written
-    // out.
-    ghost invariant = { λ kept. StandsAtEnd
-        (goes_by K.Hash.hash_input We.Weighter B.BuildHasher B.Hasher.Hasher L.Lifecycle)
-        L.RequestState.is_default K.eq kept.past.shard kept.past.log kept.shard };
+    ghost invariant = { λ kept. S.stands kept.past.shard kept.past.log kept.shard };
 }
 
 impl<
@@ -67,7 +71,7 @@ impl<
     L: Lifecycle<K, V>,
     J: Naming,
     A: Allocator,
-> Kept<K, V, We, B, L, J, A> {
+> Kept<LockedShard<K, V, We, B, L, A>, K, V, J> {
     /// A shard of which no call was made.
     pub(crate) fn new(shard: LockedShard<K, V, We, B, L, A>, past: Past<K, V, J>) -> Self
         requires none { calls_of past.shard past.log ≡ [] }
@@ -160,7 +164,7 @@ impl<
     L: Lifecycle<K, V>,
     J: Naming,
     A: Allocator,
-> Kept<K, V, We, B, L, J, A> {
+> Kept<LockedShard<K, V, We, B, L, A>, K, V, J> {
     /// Looks the query's key up beside other readers, and clones what it finds.
     ///
     /// # Errors

@@ -38,7 +38,7 @@ pub(crate) struct Place<
     A: Allocator = Global,
 > {
     head: Head<K, V, J>,
-    lock: RwLock<Kept<K, V, We, B, L, J, A>>,
+    lock: RwLock<Kept<LockedShard<K, V, We, B, L, A>, K, V, J>>,
 }
 
 /// A cache of a bounded weight, which threads share by reference, with one history of its calls.
