@@ -47,10 +47,10 @@ awk -F '|' '
 1.05|removal and insert, 1000
 1.05|removal and insert, 10000
 1.2|removal and insert, 100000
-70|bytes an entry, 1000
-70|bytes an entry, 10000
-70|bytes an entry, 100000
-70|bytes an entry, 1000000
+80|bytes an entry, 1000
+80|bytes an entry, 10000
+80|bytes an entry, 100000
+80|bytes an entry, 1000000
 3.2|hits by `run`, 10000
 1.1|fresh keys by `run`, 10000
 1.2|shared get, 16384, threads: 1

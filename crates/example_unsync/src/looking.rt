@@ -1,5 +1,5 @@
 //! What stands in a cache is looked up, or looked at.
-use quick_cache_unsync::{Cache, Queue};
+use quick_cache_unsync::{Cache, Miss, Queue};
 use std::test::Fail;
 use test_tools::{expect, expect_eq};
 
@@ -10,6 +10,43 @@ fn get(rt: HostRuntime) -> Result<(), Fail> {
     expect_eq!(rt; cache.get(&"square").copied(), Some(4));
     expect_eq!(rt; cache.get(&"circle").copied(), None);
     expect_eq!(rt; (cache.hits(), cache.misses()), (1, 1));
+    Ok(())
+}
+
+#[test]
+fn get_if(rt: HostRuntime) -> Result<(), Fail> {
+    let mut cache = Cache::new(rt.alloc(), 5)?;
+    cache.insert("square", 4u64)?;
+    expect_eq!(rt; cache.get_if(&"square", |sides: &u64| *sides < 5).copied(), Ok(4));
+    expect_eq!(rt; cache.get_if(&"square", |sides: &u64| *sides > 4).copied(), Err(Miss::Failed));
+    expect_eq!(rt; cache.get_if(&"circle", |sides: &u64| *sides > 4).copied(), Err(Miss::Absent));
+    expect_eq!(rt; (cache.hits(), cache.misses(), cache.len()), (1, 2, 1));
+    Ok(())
+}
+
+#[test]
+fn get_or_drop(rt: HostRuntime) -> Result<(), Fail> {
+    let mut cache = Cache::new(rt.alloc(), 5)?;
+    cache.insert("square", 4u64)?;
+    expect_eq!(rt; cache.get_or_drop(&"square", |sides: &u64| *sides < 5).copied(), Ok(4));
+    let found = cache
+        .get_or_drop(&"square", |sides: &u64| *sides > 4)
+        .copied();
+    expect_eq!(rt; found, Err(Miss::Failed));
+    expect_eq!(rt; (cache.hits(), cache.misses(), cache.len()), (1, 1, 0));
+    Ok(())
+}
+
+#[test]
+fn look_up_or_take(rt: HostRuntime) -> Result<(), Fail> {
+    let mut cache = Cache::new(rt.alloc(), 5)?;
+    cache.insert("square", 4u64)?;
+    let Ok(token) = cache.look_up_or_take(&"square", |sides: &u64| *sides < 5) else {
+        return Ok(());
+    };
+    expect_eq!(rt; cache.shard().peek_token(token).copied(), Some(4));
+    let taken = cache.look_up_or_take(&"square", |sides: &u64| *sides > 4);
+    expect_eq!(rt; taken, Err(Some(("square", 4))));
     Ok(())
 }
 
@@ -144,6 +181,18 @@ fn saved_and_restored(rt: HostRuntime) -> Result<(), Fail> {
     expect_eq!(rt; again.len(), 1);
     // What stands is not put back once more.
     expect_eq!(rt; again.restore(1, 11, Queue::Cold, 0), Err((1, 11, None)));
+    Ok(())
+}
+
+#[test]
+fn restore_all(rt: HostRuntime) -> Result<(), Fail> {
+    let mut cache: Cache<u64, u64> = Cache::new(rt.alloc(), 5)?;
+    cache.insert(1, 10)?;
+    let saved = [(1, 11, Queue::Cold, 0), (2, 20, Queue::Hot, 2)];
+    cache.restore_all(saved.into_iter())?;
+    // Of key 1 something was known, so it was passed over.
+    let values = (cache.peek(&1).copied(), cache.peek(&2).copied());
+    expect_eq!(rt; values, (Some(10), Some(20)));
     Ok(())
 }
 

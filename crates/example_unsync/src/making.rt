@@ -81,6 +81,8 @@ fn with_options(rt: HostRuntime) -> Result<(), Fail> {
         .estimated_items_capacity(100)
         .weight_capacity(1000)
         .hot_allocation(900000)
+        .ghost_allocation(400000)
+        .mark_cut(3)
         .build()?;
     let mut cache: Cache<u64, u64> = Cache::with_options(
         rt.alloc(),
@@ -90,7 +92,8 @@ fn with_options(rt: HostRuntime) -> Result<(), Fail> {
         DefaultLifecycle::new(),
     )?;
     cache.insert(1, 10)?;
-    expect_eq!(rt; (cache.capacity(), cache.shard().hot_target()), (1000, 900));
+    let shard = cache.shard();
+    expect_eq!(rt; (shard.capacity(), shard.hot_target(), shard.ghost_limit()), (1000, 900, 40));
     Ok(())
 }
 

@@ -1,5 +1,6 @@
 mod AnsweredLemmas
 mod ContainerLemmas
+mod HistoryLemmas
 mod LentLemmas
 mod ManyLemmas
 mod OneThreadLemmas

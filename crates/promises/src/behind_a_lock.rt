@@ -2,6 +2,7 @@
 
 pub mod ending;
 pub mod fitting;
+pub mod history;
 pub mod lives;
 pub mod loads;
 pub mod locked;

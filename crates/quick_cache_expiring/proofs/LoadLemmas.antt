@@ -1,9 +1,6 @@
 -- Loads whose loader gives a value with its end.
-use Rattle.std.proofs.Common.{◌≡◌, ℕ, Bool, true, false, Result, Ok, Err, sym, ap, ◌∙◌}
-use Rattle.std.specs.Bool.{OnTrue, OnFalse}
+use Rattle.std.proofs.Common.{◌≡◌, ℕ, Bool, Result, Ok, Err, ap, ◌∙◌}
 use Rattle.quick_cache_shard.specs.Shard.{Shard, KeepsTerms, KeepsWork}
-use Rattle.quick_cache_expiring.specs.Entries.{Entries, Expires, HasNoneOver}
-use Rattle.quick_cache_expiring.specs.Loads.{ExpiresIf}
 use Rattle.quick_cache_model.specs.declared.refusal.Refusal.{Refusal}
 use Rattle.quick_cache_model.specs.CacheState.{CacheState}
 use Rattle.quick_cache_model.specs.Hooks.{Rules, Hooks}
@@ -37,26 +34,7 @@ module _ {K V S E : Type 0} (steady : Type 0) (hooks : Hooks K V S) (rules : Rul
   AnswersLoad-weaker _ _ (AnswersLoad.refused refusal new none) =
       AnswersLoad.refused refusal new none
 
--- what is over goes, or nothing is
-pub ExpiresIf-told : {K V We B L : Type 0} (test : K → Bool) (now : ℕ) (old new : Entries K V We B L)
-    (over : Bool) → OnTrue over (Expires test now old new) → OnFalse over (new ≡ old)
-    → OnFalse over (HasNoneOver test now old.cache.state) → ExpiresIf over test now old new
-ExpiresIf-told test now old new true expires same none = expires
-ExpiresIf-told test now old new false expires same none = (none, same)
-
--- so the cache is made with the same
-pub ExpiresIf-same : {K V We B L : Type 0} (test : K → Bool) (now : ℕ)
-    (old new : Entries K V We B L) (over : Bool) → ExpiresIf over test now old new
-    → KeepsWork old.cache new.cache
-ExpiresIf-same test now old new true expires = expires.same
-ExpiresIf-same {K} {V} {We} {B} {L} test now old new false same =
-    ap (λ (e : Entries K V We B L). e.cache) same.1 ∙ (λ i. record old.cache {
-      state = (sym same.1 i).cache.state;
-      places = (sym same.1 i).cache.places;
-      room = (sym same.1 i).cache.room;
-    })
-
--- the same of two steps
+-- what is made with the same after one step is so after two
 pub KeepsTerms-after : {K V We B L : Type 0} (old mid new : Shard K V We B L) → KeepsWork old mid
     → KeepsTerms mid new → KeepsTerms old new
 KeepsTerms-after {K} {V} {We} {B} {L} old mid new first second =

@@ -8,7 +8,7 @@ use Rattle.quick_cache_unsync.specs.Steps.{LoadsBy}
 use Rattle.quick_cache_unsync.specs.Touches.{no_touches}
 use Rattle.quick_cache_expiring.specs.declared.lasting.Lasting.{Lasting}
 use Rattle.quick_cache_expiring.specs.declared.by_value.ByValue.{ByValue}
-use Rattle.quick_cache_expiring.specs.Entries.{Entries, Expires, HasNoneOver}
+use Rattle.quick_cache_expiring.specs.Entries.{Entries, Expires}
 
 -- a loader's value with this end, or its error
 abbrev pub GivesWithEnd : {V E : Type 0} → (given : Result V E → Type 0) → (until : ℕ)
@@ -16,17 +16,11 @@ abbrev pub GivesWithEnd : {V E : Type 0} → (given : Result V E → Type 0) →
 GivesWithEnd given until (Ok lasting) = given (Ok lasting.value) × (lasting.until ≡ until)
 GivesWithEnd given until (Err error) = given (Err error)
 
--- the entry under the query is over and goes, which is counted; or none is over and nothing changes
-abbrev pub ExpiresIf : {K V We B L : Type 0} → (over : Bool) → (stands_for : K → Bool) → (now : ℕ)
-    → (old new : Entries K V We B L) → Type 0
-ExpiresIf true stands_for now old new = Expires stands_for now old new
-ExpiresIf false stands_for now old new = HasNoneOver stands_for now old.cache.state × (new ≡ old)
-
--- a load that found what was over goes on to the cache, which counts the miss unless it refuses
-abbrev pub missed_after : {E : Type 0} → (over : Bool) → Result (Result Bool E) Refusal → ℕ → ℕ
-missed_after true (Ok answer) missed = counted_up 1 missed
-missed_after true (Err refusal) missed = missed
-missed_after false answer missed = missed
+-- a load that took out what was over and is then refused: the cache counts no miss of it
+abbrev pub refused_after : {E : Type 0} → (over : Bool) → Result (Result Bool E) Refusal → ℕ → ℕ
+refused_after true (Err refusal) refused = counted_up 1 refused
+refused_after true (Ok answer) refused = refused
+refused_after false answer refused = refused
 
 module _ {K V We B L S E : Type 0} (goes : Goes K (Lasting V) (ByValue We) B L S)
     (is_default : S → Type 0) (stands_for : K → Bool) (gives : K → Type 0) (hash_by : B → ℕ)
@@ -37,11 +31,11 @@ module _ {K V We B L S E : Type 0} (goes : Goes K (Lasting V) (ByValue We) B L S
     where
       pub over : Bool
       pub mid : Entries K V We B L
-      pub expires : ExpiresIf over stands_for now old mid
+      pub expires : Expires stands_for now old over mid
       pub loads : LoadsBy goes no_touches mid.cache is_default stands_for gives
           (hash_by mid.cache.builder) (GivesWithEnd given until) answer new.cache
       pub same : KeepsTerms old.cache new.cache
       pub rest : new ≡ record mid {
         cache = new.cache;
-        missed = missed_after over answer mid.missed;
+        refused = refused_after over answer mid.refused;
       }

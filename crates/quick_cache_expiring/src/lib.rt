@@ -11,4 +11,7 @@ pub use alone::expiring::Expiring;
 pub use by_value::ByValue;
 pub use lasting::{Lasting, Stats, end_of};
 pub use loaded::Loaded;
-pub use quick_cache_model::{Bytes, BytesIn, Refusal, Text, TextIn};
+pub use quick_cache_model::{
+    Bytes, BytesIn, DefaultHashBuilder, Refusal, Text, TextIn, UnitWeighter, Weighter,
+};
+pub use quick_cache_unsync::DefaultLifecycle;

@@ -8,5 +8,8 @@ mod shared;
 mod writes;
 
 pub use quick_cache_expiring::{ByValue, Lasting, Stats, end_of};
-pub use quick_cache_model::{Bytes, BytesIn, Refusal, Text, TextIn};
+pub use quick_cache_model::{
+    Bytes, BytesIn, DefaultHashBuilder, Refusal, Text, TextIn, UnitWeighter, Weighter,
+};
+pub use quick_cache_sync::DefaultLifecycle;
 pub use shared::SharedExpiring;

@@ -1,11 +1,12 @@
 //! A value, or the guard of a key that is absent, for a task, which waits without a thread.
-ghost use Rattle.std.specs.Prelude.{◌≡◌, true, false, Some, Err, IsSome, IfSome};
+ghost use Rattle.std.specs.Prelude.{◌≡◌, ◌⊎◌, true, false, Some, Err, IsSome, IfSome};
 ghost use Rattle.std.specs.Arc.{arc_value};
 ghost use Rattle.quick_cache_model.specs.Hashing.{StandsForGiven};
-ghost use Rattle.futures.specs.Poll.{IfReady};
-ghost use Rattle.quick_cache_guard.specs.Answers.{IsAnswered, IsRefusedAsLoad};
-ghost use Rattle.quick_cache_guard.specs.Futures.{AnswersOnce, GivesFor, IfWaits, IsSource, Registers, has_answered, source_of};
+ghost use Rattle.futures.specs.Poll.{IfReady, OnPending};
+ghost use Rattle.quick_cache_guard.specs.Answers.{IsAnswered, IsRefusedAsLoad, IsToldSo, is_timeout};
+ghost use Rattle.quick_cache_guard.specs.Futures.{AnswersOnce, GivesFor, IfWaits, IsSource, Registers, WasTold, has_answered, source_of};
 ghost use Rattle.quick_cache_loading.specs.Fitting.{FitsIfClonesDo};
+ghost use Rattle.quick_cache_loading.specs.declared.waiting.waited.Waited.{Waited};
 
 use crate::coming::{Waiting, answer, come, leave, output};
 use crate::guard::PlaceholderGuard;
@@ -134,6 +135,9 @@ impl<
             result self.new.is_finished }
         ensures registers { Registers (IsSome self.new.source) (IsSource self.new.source) result
             cx.old cx.new }
+        // One that stands nowhere was told to look again.
+        ensures again { OnPending result (IsSome self.new.source
+            ⊎ WasTold V.is_clone (Q.equivalent self.old.query) Wants.Value Waited.Again) }
         ensures query { self.new.query ≡ self.old.query }
     {
         match replace(&mut self.stage, Stage::Finished) {
@@ -155,6 +159,9 @@ impl<
             self.new.is_finished }
         ensures registers { Registers (IsSome self.new.source) (IsSource self.new.source) result
             cx.old cx.new }
+        // One that stands nowhere was told to look again.
+        ensures again { OnPending result (IsSome self.new.source
+            ⊎ WasTold V.is_clone (Q.equivalent self.old.query) Wants.Value Waited.Again) }
         ensures query { self.new.query ≡ self.old.query }
     {
         match look(self.rt, self.shard, self.query) {
@@ -181,6 +188,9 @@ impl<
             self.new.is_finished }
         ensures registers { Registers (IsSome self.new.source) (IsSource self.new.source) result
             cx.old cx.new }
+        // One that stands nowhere was told to look again.
+        ensures again { OnPending result (IsSome self.new.source
+            ⊎ WasTold V.is_clone (Q.equivalent self.old.query) Wants.Value Waited.Again) }
         ensures query { self.new.query ≡ self.old.query }
     {
         let Waiting {
@@ -214,12 +224,18 @@ impl<
         requires answers { IfSome told (IsAnswered
             (FitsIfClonesDo L.fits V.is_clone (Q.equivalent self.old.query))
             (Q.to_key_gives self.old.query)) }
+        requires cause { IsToldSo
+            (WasTold V.is_clone (Q.equivalent self.old.query) Wants.Value) told }
+        requires timely { IfSome told (λ answer. is_timeout answer ≡ false) }
         ensures gives { IfReady result (GivesFor L.fits V.is_clone (Q.equivalent self.old.query)
             (Q.to_key_gives self.old.query)) }
         ensures once { AnswersOnce IsRefusedAsLoad (Err Refusal.Finished) false result
             self.new.is_finished }
         ensures registers { Registers (IsSome self.new.source) (IsSource self.new.source) result
             cx.old cx.new }
+        // One that stands nowhere was told to look again.
+        ensures again { OnPending result (IsSome self.new.source
+            ⊎ WasTold V.is_clone (Q.equivalent self.old.query) Wants.Value Waited.Again) }
         ensures query { self.new.query ≡ self.old.query }
     {
         let Some(output) = output(told) else {

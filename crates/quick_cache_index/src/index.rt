@@ -16,6 +16,9 @@ use std::hint::spin_loop;
 use std::marker::Model;
 use walk::{Walk, first_position_of, position_on_walk};
 
+// The mask from which on there are so many groups that what is removed next is read ahead.
+const SOME_GROUPS: usize = 4095;
+
 // The mask from which on there are so many groups that their tags do not stay near: a look-up
 // reads ahead.
 const MANY_GROUPS: usize = 65535;
@@ -308,6 +311,10 @@ impl<A: Allocator> Index<A> {
     /// near. It changes nothing, and decides nothing by what it reads.
     #[inline(always)]
     pub fn bring_near(&self, hash: u64) {
+        // Few groups stay near by themselves.
+        if self.mask < SOME_GROUPS {
+            return;
+        }
         let home = home_of(hash, self.mask);
         // A load that nothing came of would be left out. Hardly a token is so high, and a pause
         // does no harm.

@@ -1,3 +1,4 @@
 mod Runs
+mod Sums
 mod Told
 mod Written

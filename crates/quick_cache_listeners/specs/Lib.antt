@@ -1,3 +1,4 @@
+pub mod Bytes
 pub mod Kept
 pub mod Causes
 pub mod Requests

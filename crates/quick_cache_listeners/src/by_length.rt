@@ -1,10 +1,14 @@
 //! A weigher of texts and lists.
 ghost use Rattle.std.specs.Prelude.{◌≡◌, ℕ, length, string_bytes, vec_len};
+ghost use Rattle.std.specs.Arc.{arc_value};
 
 use quick_cache_model::Weighter;
 use std::alloc::Allocator;
+use std::rc::Rc;
+use std::sync::Arc;
 
-/// What has a length: of a text how many bytes it has, of a list how many elements.
+/// What has a length: of a text how many bytes it has, of a list how many elements, of a handle
+/// what it holds.
 pub trait HasLength {
     /// A function of the value.
     ghost length: { Self → ℕ };
@@ -35,6 +39,22 @@ impl<T, A: Allocator> HasLength for Vec<T, A> {
 
     fn length(&self) -> u64 {
         self.len() as u64
+    }
+}
+
+impl<T: HasLength, A: Allocator> HasLength for Rc<T, A> {
+    ghost length = { λ handle. T.length handle.value };
+
+    fn length(&self) -> u64 {
+        (**self).length()
+    }
+}
+
+impl<T: HasLength, A: Allocator> HasLength for Arc<T, A> {
+    ghost length = { λ handle. T.length (arc_value handle) };
+
+    fn length(&self) -> u64 {
+        (**self).length()
     }
 }
 

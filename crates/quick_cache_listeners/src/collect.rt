@@ -3,6 +3,8 @@ ghost use Rattle.std.specs.Prelude.{◌≡◌, ◌-◌, None, Some, IfSome, opti
 ghost use Rattle.std.specs.List.{FoldsTo};
 ghost use Rattle.quick_cache_listeners.specs.Kept.{Keeps};
 
+use crate::causes::cause::Cause;
+use crate::causes::listener::ListenerWhy;
 use crate::listener::Listener;
 use std::marker::Model;
 
@@ -110,5 +112,17 @@ impl<K: Drop, V: Drop> Listener<K, V> for Collect {
             }
         }
         state.lost = state.lost.saturating_add(1);
+    }
+}
+
+/// Keeps what leaves with its cause, as `(key, (value, cause))`: a closure that `each` is handed is
+/// told of it behind the call, where no lock is held.
+impl<K: Drop, V: Drop> ListenerWhy<K, V> for Collect {
+    type State = Collected<K, (V, Cause)>;
+
+    ghost tells = { λ _ old key value cause new. Keeps old key (value, cause) new };
+
+    fn tell(&self, state: &mut Collected<K, (V, Cause)>, key: K, val: V, cause: Cause) {
+        Listener::tell(self, state, key, (val, cause));
     }
 }

@@ -1,35 +1,24 @@
 -- Loads keep every value fitting its key.
-use Rattle.std.proofs.Common.{◌≡◌, ℕ, Bool, true, false, List, ◌∷◌, ◌++◌, Option, Some, None, Result, Ok, Err, subst}
-use Rattle.std.specs.declared.num.NonZeroU32.{NonZeroU32 as Token}
+use Rattle.std.proofs.Common.{ℕ, Bool, true, false, List, ◌∷◌, ◌++◌, Option, Some, None, Result, Ok, Err, subst}
 use Rattle.quick_cache_model.specs.declared.refusal.Refusal.{Refusal}
 use Rattle.std.specs.List.{AllByRecursion}
 use Rattle.quick_cache_model.specs.declared.terms.lifecycle.Lifecycle as lifecycle
 use Rattle.quick_cache_model.specs.CacheState.{CacheState, Item, LoadingEntry}
-use Rattle.quick_cache_model.specs.Finding.{HasNoItem}
 use Rattle.quick_cache_model.specs.Hooks.{Rules, Hooks, Calls}
 use Rattle.quick_cache_model.specs.Lookups.{LooksUp, after_hit, looked_up}
 use Rattle.quick_cache_model.specs.Placeholders.{MakesPlaceholder, MeetsPlaceholder, GivesUpPlaceholder, IsLoadingTicket}
 use Rattle.quick_cache_model.proofs.EachElement.{all-instead}
-use Rattle.quick_cache_shard.specs.Copies.{FindsCopy, IsCopyFound}
+use Rattle.quick_cache_shard.specs.Copies.{IsCopyFound}
 use Rattle.quick_cache_shard.specs.Filling.{AnswersFill}
-use Rattle.quick_cache_shard.specs.Loading.{IsMadeOrMet, LooksUpOrMakes}
+use Rattle.quick_cache_shard.specs.Loading.{BeginsLoad, IsMadeOrMet}
 use Rattle.quick_cache_shard.specs.Lifecycles.{hooks_by}
 use Rattle.quick_cache_locked.specs.Fitting.{FitsIn, AllFit, ClonesFit, FitsQuery}
 use Rattle.quick_cache_locked.specs.Loads.{EndsLoad}
 use Rattle.quick_cache_locked.proofs.FitRemovals.{AllFit-same, AllFit-stepped}
-use Rattle.quick_cache_locked.proofs.PeekLemmas.{absent-item}
 use Rattle.quick_cache_locked.proofs.TicketLemmas.{awaits_none}
 use Rattle.quick_cache_model.proofs.Fitting.{RunsHooks-fits, TellsBeside-fits}
 use Rattle.quick_cache_locked.proofs.FitLemmas.{AllFit-at, AllFit-with, SameButOrder-fits}
 use Rattle.quick_cache_locked.proofs.FitWrites.{IsItemAt-fits}
-
-module _ {K V : Type 0} where
-  -- where no item is there, a look-up finds none
-  pub absent-found : (stands_for : K → Bool) (state : CacheState K V) (value : V)
-      (new : CacheState K V) → HasNoItem stands_for state
-      → LooksUp stands_for state (λ item. item.value) (Some value) new → ⊥
-  absent-found stands_for state _ _ none (LooksUp.hit place before item after there) =
-      absent-item stands_for state place before item after there none
 
 module _ {K V : Type 0} (fits : K → V → Type 0) where
   -- a look-up writes no value
@@ -115,16 +104,7 @@ EndsLoad-filled steady hooks rules equal ticket old marked key value first last 
 
 module _ {K V : Type 0} (fits : K → V → Type 0) (stands_for : K → Bool)
     (old new : CacheState K V) where
-  -- a look-up that gives a clone leaves values that fit, whatever it found
-  pub AllFit-copied : (is_clone : V → V → Type 0) (found : Result (Option V) Refusal)
-      → FindsCopy stands_for is_clone old found new → AllFit fits old → AllFit fits new
-  AllFit-copied is_clone (Ok (Some copy)) finds fit =
-      AllFit-stepped fits old new finds.looks
-      (λ next holds. LooksUp-fits fits stands_for old (Some finds.value) next holds) fit
-  AllFit-copied is_clone (Ok None) none fit = AllFit-same fits old new none.1 fit
-  AllFit-copied is_clone (Err refusal) none fit = AllFit-same fits old new none.unchanged fit
-
-  -- and the clone fits, where clones do
+  -- the clone of a value that was looked up fits, where clones do
   pub IsCopyFound-fits : (is_clone : V → V → Type 0) (copy : V)
       → IsCopyFound stands_for is_clone old copy new → AllFit fits old → ClonesFit fits is_clone
       → FitsQuery fits stands_for copy
@@ -141,26 +121,25 @@ module _ {K V : Type 0} (fits : K → V → Type 0) (stands_for : K → Bool)
             (IsItemAt-fits fits stands_for old place before item after there fit);
       }
 
-  -- and so does one that makes a placeholder where it finds no key
-  pub AllFit-looks_or_makes : {P : Type 0} (own_ticket : P → ℕ) (gives : K → Type 0) (hash : ℕ)
-      (answer : Result (Result Token (P × Bool)) Refusal)
-      → LooksUpOrMakes own_ticket stands_for gives hash old answer new
-      → AllFit fits old → AllFit fits new
-  AllFit-looks_or_makes own_ticket gives hash (Ok (Ok token)) looks fit =
-      AllFit-stepped fits old new looks.1
-      (λ next holds. LooksUp-fits fits stands_for old (Some looks.0) next holds) fit
-  AllFit-looks_or_makes own_ticket gives hash (Ok (Err begun)) makes fit =
-      AllFit-begun fits stands_for gives hash old new begun.1 (own_ticket begun.0) makes fit
-  AllFit-looks_or_makes own_ticket gives hash (Err refusal) none fit =
-      AllFit-same fits old new none.unchanged fit
+  module _ {P : Type 0} (own_ticket : P → ℕ) (gives : K → Type 0) (hash : ℕ)
+      (is_clone : V → V → Type 0) where
+    -- a load that begins leaves values that fit
+    pub AllFit-begins : (answer : Result (Result V P) Refusal)
+        → BeginsLoad own_ticket stands_for gives hash is_clone old answer new
+        → AllFit fits old → AllFit fits new
+    AllFit-begins _ (BeginsLoad.finds copy _ found) fit =
+        AllFit-stepped fits old new found.looks
+        (λ next holds. LooksUp-fits fits stands_for old (Some found.value) next holds) fit
+    AllFit-begins _ (BeginsLoad.lacks_a_clone refusal _ none) fit =
+        AllFit-same fits old new none.unchanged fit
+    AllFit-begins _ (BeginsLoad.makes_or_meets made placeholder _ begun) fit =
+        AllFit-begun fits stands_for gives hash old new made (own_ticket placeholder) begun fit
+    AllFit-begins _ (BeginsLoad.makes_none refusal _ none) fit =
+        AllFit-same fits old new none.unchanged fit
 
-module _ {K V P : Type 0} (own_ticket : P → ℕ) (stands_for : K → Bool) (gives : K → Type 0)
-    (hash : ℕ) (old : CacheState K V) where
-  -- where there is no item, none is looked up
-  pub never_finds : (answer : Result (Result Token (P × Bool)) Refusal) (token : Token)
-      (new : CacheState K V) → HasNoItem stands_for old
-      → LooksUpOrMakes own_ticket stands_for gives hash old answer new → answer ≡ Ok (Ok token)
-      → ⊥
-  never_finds answer token new none looks is =
-      let found = rw is at looks in
-      absent-found stands_for old found.0 found.1.ordered none found.1.holds
+    -- and what it found fits
+    pub found-fits : (copy : V)
+        → BeginsLoad own_ticket stands_for gives hash is_clone old (Ok (Ok copy)) new
+        → AllFit fits old → ClonesFit fits is_clone → FitsQuery fits stands_for copy
+    found-fits _ (BeginsLoad.finds copy _ found) fit clones =
+        IsCopyFound-fits is_clone copy found fit clones

@@ -1,11 +1,8 @@
 -- Looks and shared look-ups, which clone what they find.
-use Rattle.std.proofs.Common.{◌≡◌, Bool, false, true≢false, List, ◌∙◌, Option, Some, None, Result, Ok, Err, sym, subst}
-use Rattle.std.specs.List.{AllByRecursion}
+use Rattle.std.proofs.Common.{◌≡◌, Bool, true≢false, Option, Some, None, Result, Ok, Err, sym, subst}
 use Rattle.std.specs.Prelude.{IsSome, IfSome, IfOk, IfErr}
 use Rattle.quick_cache_model.specs.declared.refusal.Refusal.{Refusal}
-use Rattle.quick_cache_model.specs.CacheState.{CacheState, Item, Place, InHot, InCold, InStill, items_at}
-use Rattle.quick_cache_model.proofs.EachElement.{all-middle}
-use Rattle.quick_cache_model.specs.Finding.{HasNoItem, IsItemAt}
+use Rattle.quick_cache_model.specs.CacheState.{CacheState}
 use Rattle.quick_cache_model.specs.Lookups.{Sees}
 use Rattle.quick_cache_model.specs.Shown.{IsShown}
 use Rattle.quick_cache_shard.specs.Shard.{HasItem}
@@ -13,22 +10,6 @@ use Rattle.quick_cache_shard.specs.Shared.{ShowsClone}
 use Rattle.quick_cache_locked.specs.Peeks.{Peeks}
 use Rattle.quick_cache_locked.specs.Fitting.{AllFit, ClonesFit, FitsQuery}
 use Rattle.quick_cache_locked.proofs.FitWrites.{IsItemAt-fits}
-
--- an item that is there is found
-pub absent-item : {K V : Type 0} (stands_for : K → Bool) (old : CacheState K V) (place : Place)
-    (before : List (Item K V)) (item : Item K V) (after : List (Item K V))
-    → IsItemAt stands_for old place before item after → HasNoItem stands_for old → ⊥
-absent-item {K} {V} stands_for old place before item after there none =
-    true≢false (sym there.passes ∙ all-middle IsOther before item after
-    (subst (λ (xs : List (Item K V)). AllByRecursion IsOther xs) there.split (others place)))
-  where
-    IsOther : Item K V → Type 0
-    IsOther x = stands_for x.key ≡ false
-
-    others : (at : Place) → AllByRecursion IsOther (items_at at old)
-    others InHot = none.hot
-    others InCold = none.cold
-    others InStill = none.still
 
 module _ {K V : Type 0} (stands_for : K → Bool) (is_clone : V → V → Type 0)
     (old : CacheState K V) where

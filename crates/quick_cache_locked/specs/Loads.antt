@@ -4,29 +4,17 @@ use Rattle.quick_cache_model.specs.declared.refusal.Refusal.{Refusal}
 use Rattle.quick_cache_model.specs.declared.terms.lifecycle.Lifecycle as lifecycle
 use Rattle.quick_cache_model.specs.CacheState.{CacheState}
 use Rattle.quick_cache_model.specs.Hooks.{Rules, Hooks, Calls}
-use Rattle.quick_cache_shard.specs.Copies.{IsCopyFound, IsNotCopied}
 use Rattle.quick_cache_shard.specs.Filling.{AnswersFill, AwaitsKey}
-use Rattle.quick_cache_shard.specs.Loading.{IsMadeOrMet, MakesNone}
 use Rattle.quick_cache_loading.specs.declared.sharing.shard.Begun.{Begun}
 use Rattle.quick_cache_shard.specs.Shard.{Shard}
 use Rattle.quick_cache_shard.specs.Steps.{Goes, steady_in, hooks_in, rules_in}
 use Rattle.quick_cache_locked.specs.Locked.{FromSome}
 
-module _ {K V P : Type 0} (own_ticket : P → ℕ) (stands_for : K → Bool) (gives : K → Type 0)
-    (hash : ℕ) (is_clone : V → V → Type 0) (old : CacheState K V) where
-  -- A load begins. An item was looked up, and a clone of its value is the answer; or the clone
-  -- failed, and nothing changed. Else a placeholder is the answer, which was made or met; or none
-  -- was made, and nothing changed.
-  pub data BeginsLoad : Result (Begun V P) Refusal → CacheState K V → Type 0 where
-    finds : (copy : V) (new : CacheState K V) → IsCopyFound stands_for is_clone old copy new
-        → BeginsLoad (Ok (Begun.Found copy)) new
-    lacks_a_clone : (refusal : Refusal) (new : CacheState K V)
-        → IsNotCopied stands_for is_clone old refusal new → BeginsLoad (Err refusal) new
-    makes_or_meets : (made : Bool) (placeholder : P) (new : CacheState K V)
-        → IsMadeOrMet stands_for gives hash old made (own_ticket placeholder) new
-        → BeginsLoad (Ok (Begun.Loading placeholder)) new
-    makes_none : (refusal : Refusal) (new : CacheState K V)
-        → MakesNone stands_for gives hash old refusal new → BeginsLoad (Err refusal) new
+-- what a load begins with, as the shard's own answer: a clone, or the placeholder
+abbrev pub begun_of : {V P : Type 0} → Result (Begun V P) Refusal → Result (Result V P) Refusal
+begun_of (Ok (Begun.Found copy)) = Ok (Ok copy)
+begun_of (Ok (Begun.Loading placeholder)) = Ok (Err placeholder)
+begun_of (Err refusal) = Err refusal
 
 -- no placeholder of the ticket is there for an equal key
 abbrev pub AwaitsNoEqual : {K V : Type 0} → (K → K → Bool) → ℕ → K → CacheState K V → Type 0

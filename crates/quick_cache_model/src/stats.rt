@@ -4,9 +4,10 @@ ghost use Rattle.std.specs.Prelude.{◌≡◌, ◌+◌, ◌-◌, ◌^◌, min};
 /// How many bytes a cache uses.
 #[derive(Debug, Clone, Copy)]
 pub struct MemoryUsed {
-    /// The bytes of the slots that hold the entries, what the keys and values own apart.
+    /// The bytes of the slots that hold the entries and of their order, with those of the room. What
+    /// the keys and values own comes apart.
     pub entries: usize,
-    /// The bytes of the index that finds a slot by its hash.
+    /// The bytes of the index that finds a slot by its hash, with those of its room.
     pub map: usize,
 }
 

@@ -41,6 +41,7 @@ mod EntryLemmas
 mod WrittenLemmas
 mod KeptPlaces
 mod AskLemmas
+mod TestLemmas
 mod ThereLemmas
 mod TellLemmas
 mod StaysLemmas

@@ -50,6 +50,11 @@ module _ {K V : Type 0} (stands_for : K → Bool) (is_clone : V → V → Type 0
     pub memory : refusal ≡ Refusal.Memory
     pub unchanged : new ≡ old
 
+  -- the value of the item that was found was cloned, or was not
+  abbrev pub CopiesItem : Result V Refusal → CacheState K V → Type 0
+  CopiesItem (Ok copy) new = IsCopyFound copy new
+  CopiesItem (Err refusal) new = IsNotCopied refusal new
+
   -- A look-up that answers a clone. Where there is no item nothing is counted, and nothing changed;
   -- nor did it where the clone was refused.
   abbrev pub FindsCopy : Result (Option V) Refusal → CacheState K V → Type 0

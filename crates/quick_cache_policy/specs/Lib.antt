@@ -21,3 +21,4 @@ pub mod Places
 pub mod Stats
 pub mod Entering
 pub mod Stays
+pub mod Tests

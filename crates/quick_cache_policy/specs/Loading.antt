@@ -7,6 +7,7 @@ use Rattle.quick_cache_model.specs.Placeholders.{MakesPlaceholder, MeetsPlacehol
 use Rattle.quick_cache_model.specs.Refusals.{IsProvided, MayRefuse, needs_of_placeholder}
 use Rattle.quick_cache_policy.specs.declared.contents.Contents.{Contents}
 use Rattle.quick_cache_policy.specs.Contents.{state_of}
+use Rattle.quick_cache_policy.specs.Copies.{IsCopyFound, IsNotCopied}
 use Rattle.quick_cache_policy.specs.Finding.{IsLookedUp}
 
 -- A placeholder that was made has this hash. Nothing is said of one that was met, or of an item.
@@ -36,6 +37,22 @@ module _ {K V : Type 0} (stands_for : K → Bool) (gives : K → Type 0) (hash :
   pub record MakesNone (refusal : Refusal) (new : CacheState K V) : Type 0 where
     pub cause : MayRefuse (needs_of_placeholder stands_for hash old) old refusal
     pub unchanged : new ≡ old
+
+module _ {K V W : Type 0} (own_ticket : W → ℕ) (stands_for : K → Bool) (gives : K → Type 0)
+    (hash : ℕ) (is_clone : V → V → Type 0) (old : CacheState K V) where
+  -- A load begins. An item was looked up, and a clone of its value is the answer; or the clone
+  -- failed, and nothing changed. Else a placeholder is the answer, which was made or met; or none
+  -- was made, and nothing changed.
+  pub data BeginsLoad : Result (Result V W) Refusal → CacheState K V → Type 0 where
+    finds : (copy : V) (new : CacheState K V) → IsCopyFound stands_for is_clone old copy new
+        → BeginsLoad (Ok (Ok copy)) new
+    lacks_a_clone : (refusal : Refusal) (new : CacheState K V)
+        → IsNotCopied stands_for is_clone old refusal new → BeginsLoad (Err refusal) new
+    makes_or_meets : (made : Bool) (placeholder : W) (new : CacheState K V)
+        → IsMadeOrMet stands_for gives hash old made (own_ticket placeholder) new
+        → BeginsLoad (Ok (Err placeholder)) new
+    makes_none : (refusal : Refusal) (new : CacheState K V)
+        → MakesNone stands_for gives hash old refusal new → BeginsLoad (Err refusal) new
 
 -- what stands in slots has tickets, and the placeholder that is the answer has its own
 module _ {K V W P A T : Type 0} (ticket_of : P → ℕ) (own_ticket : W → ℕ) (stands_for : K → Bool)

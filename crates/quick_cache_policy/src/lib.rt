@@ -17,6 +17,7 @@ mod strategy;
 mod writing;
 
 pub use contents::Contents;
+pub use looking::tested::Miss;
 pub use policy::{Policy, Terms};
 pub use quick_cache_model::{
     EntryAction, EntryOrPlaceholder, MakesPlaceholders, SharedPlaceholder, Touches,

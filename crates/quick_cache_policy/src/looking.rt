@@ -5,3 +5,4 @@ pub mod lookup;
 pub mod peek;
 pub mod shared;
 pub mod stats;
+pub mod tested;

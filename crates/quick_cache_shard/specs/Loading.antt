@@ -7,7 +7,7 @@ use Rattle.quick_cache_model.specs.declared.refusal.Refusal.{Refusal}
 use Rattle.quick_cache_model.specs.CacheState.{CacheState, UpToOrder}
 use Rattle.quick_cache_model.specs.Lookups.{LooksUp}
 use Rattle.quick_cache_shard.specs.Shard.{Shard, HasTokenUnder}
-pub use Rattle.quick_cache_policy.specs.Loading.{IsMade, IsMadeUnder, IsMadeOrMet, MakesNone}
+pub use Rattle.quick_cache_policy.specs.Loading.{BeginsLoad, IsMade, IsMadeUnder, IsMadeOrMet, MakesNone}
 
 module _ {K V P : Type 0} (own_ticket : P → ℕ) (stands_for : K → Bool) (gives : K → Type 0)
     (hash : ℕ) (old : CacheState K V) where

@@ -7,6 +7,7 @@ mod readers;
 mod removing;
 mod shard;
 mod shared;
+mod tested;
 mod walking;
 mod words;
 mod writing;
@@ -15,7 +16,8 @@ pub use by_token::token_mut::TokenMut;
 pub use placeholders::numbered::{NoTouches, Placeholder, Plainly};
 pub use quick_cache_model::Token;
 pub use quick_cache_policy::{
-    EntryAction, EntryOrPlaceholder, InsertStrategy, MakesPlaceholders, SharedPlaceholder, Touches,
+    EntryAction, EntryOrPlaceholder, InsertStrategy, MakesPlaceholders, Miss, SharedPlaceholder,
+    Touches,
 };
 pub use quick_cache_store::lists::Meaning;
 pub use removing::drain::Drain;

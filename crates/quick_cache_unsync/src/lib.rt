@@ -8,6 +8,7 @@ mod loading;
 mod many;
 mod removal;
 mod sizes;
+mod tested;
 mod walking;
 mod writing;
 
@@ -23,6 +24,6 @@ pub use quick_cache_model::{
     Refusal, Text, TextIn, ToKey, Token, UnitWeighter, Weighter, hash_of,
 };
 pub use quick_cache_options::options::{Error, Options, OptionsBuilder};
-pub use quick_cache_shard::{CacheShard, Placeholder, Plainly, SavedIter};
+pub use quick_cache_shard::{CacheShard, Miss, Placeholder, Plainly, SavedIter};
 pub use walking::drain::Drain;
 pub use walking::iter::Iter;

@@ -14,5 +14,5 @@ pub use future::GetFuture;
 pub use given::{AnySource, Given, Source, Stats};
 pub use lives::{ByAnswer, Lasting, Lives};
 pub use quick_cache_expiring::{ByValue, Loaded};
-pub use quick_cache_model::Refusal;
+pub use quick_cache_model::{Refusal, UnitWeighter, Weighter};
 pub use reading::ReadThrough;

@@ -77,7 +77,7 @@ fn what_came_in_before_a_refused_pair_stays(rt: HostRuntime) {
     let ration = Rationed::new(rt.alloc(), AMPLE);
     let cache: Numbers<'_> = expect_ok!(rt; Cache::new(&ration, 100_000));
     expect!(rt; cache.put(&rt, 0, 0).is_ok());
-    ration.allow(0);
+    ration.allow(20);
     let Err((key, _, Refusal::Memory, rest)) = cache.fill(&rt, (0..100_000).map(|n| (n, n))) else {
         panic!(rt; "a growth is refused");
     };
@@ -90,7 +90,7 @@ fn what_came_back_before_a_refused_pair_stays(rt: HostRuntime) {
     let ration = Rationed::new(rt.alloc(), AMPLE);
     let mut cache: OwnNumbers<'_> = expect_ok!(rt; unsync::Cache::new(&ration, 100_000));
     expect!(rt; cache.put(0, 0).is_ok());
-    ration.allow(0);
+    ration.allow(20);
     let pairs = (1..100_000).map(|n| (n, n, Queue::Hot, 0));
     expect_eq!(rt; cache.restore_all(pairs), Err(Refusal::Memory));
     let left = cache.len() as u64;

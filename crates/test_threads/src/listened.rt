@@ -3,3 +3,4 @@
 mod counting;
 mod fitting;
 mod told;
+mod why;

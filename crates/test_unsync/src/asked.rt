@@ -1,6 +1,6 @@
 //! Rows of calls of a cache, each with what it is to answer.
 use quick_cache_base::{Lifecycle, Refusal, Weighter};
-use quick_cache_unsync::{Cache, set};
+use quick_cache_unsync::{Cache, Miss, set};
 use std::alloc::Allocator;
 use std::hash::{BuildHasher, Hash};
 use std::ops::Range;
@@ -12,6 +12,12 @@ use test_tools::expect_eq;
 pub(crate) enum Ask<K, V> {
     Insert(K, V),
     Get(K),
+    /// Looks whether the value is this one.
+    GetIf(K, V),
+    /// As `GetIf`, and drops what has another value.
+    GetOrDrop(K, V),
+    /// As `GetOrDrop`, and writes the second value where the first one stands.
+    SetOrDrop(K, V, V),
     Peek(K),
     Contains(K),
     /// How often the item was read.
@@ -45,10 +51,19 @@ fn found<K, V>(value: Option<V>) -> Said<K, V> {
     }
 }
 
+/// What a look with a test found.
+fn tested<K, V>(value: Result<V, Miss>) -> Said<K, V> {
+    match value {
+        Ok(value) => Said::Value(value),
+        Err(Miss::Failed) => Said::Is(false),
+        Err(Miss::Absent) => Said::Nothing,
+    }
+}
+
 /// Makes a call.
 fn call<
     K: Eq + Hash + Copy,
-    V: Copy,
+    V: Copy + PartialEq,
     We: Weighter<K, V>,
     B: BuildHasher,
     L: Lifecycle<K, V>,
@@ -60,6 +75,25 @@ fn call<
             Err((_, _, refusal)) => Said::Refused(refusal),
         },
         Ask::Get(key) => found(cache.get(&key).copied()),
+        Ask::GetIf(key, wanted) => {
+            tested(cache.get_if(&key, |value: &V| *value == wanted).copied())
+        }
+        Ask::GetOrDrop(key, wanted) => {
+            tested(
+                cache
+                    .get_or_drop(&key, |value: &V| *value == wanted)
+                    .copied(),
+            )
+        }
+        Ask::SetOrDrop(key, wanted, new) => {
+            match cache.get_mut_or_drop(&key, |value: &V| *value == wanted) {
+                Ok(mut value) => {
+                    *value = new;
+                    Said::Done
+                }
+                Err(miss) => tested(Err(miss)),
+            }
+        }
         Ask::Peek(key) => found(cache.peek(&key).copied()),
         Ask::Contains(key) => Said::Is(cache.contains_key(&key)),
         Ask::Reads(key) => match cache.item_stats(&key) {

@@ -20,6 +20,8 @@ mod runs;
 mod traits;
 #[cfg(test)]
 mod unsync;
+#[cfg(test)]
+mod weighed;
 
 /// A predicate that a call of a list may ask.
 #[cfg(test)]

@@ -1,6 +1,4 @@
 //! An eviction listener: it keeps what it is told of.
-ghost use Rattle.std.specs.Prelude.{◌≡◌, Some};
-
 use quick_cache_listeners::{Listener, OnLeave};
 use quick_cache_unsync::{Cache, DefaultHashBuilder, Refusal, UnitWeighter};
 use std::alloc::Global;
@@ -18,8 +16,6 @@ pub struct Left {
 
 impl Listener<u64, u64> for Last {
     type State = Left;
-
-    ghost tells = { λ _ _ key value new. new.last ≡ Some (key, value) };
 
     fn tell(&self, left: &mut Left, key: u64, val: u64) {
         left.last = Some((key, val));

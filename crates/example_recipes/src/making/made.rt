@@ -2,12 +2,19 @@
 use quick_cache_listeners::ByLength;
 use quick_cache_maker::{MakeError, Maker};
 use quick_cache_sync::Cache as SharedCache;
-use quick_cache_unsync::Cache;
+use quick_cache_unsync::{Cache, DefaultHashBuilder, DefaultLifecycle};
 use test_tools::{expect, expect_eq, expect_ok};
 
 #[test]
 fn caches_are_made_by_names(rt: HostRuntime) {
     let named = Maker::new().items(100).weight(1 << 20).weigher(ByLength);
+    let named = named
+        .hot_allocation(900000)
+        .ghost_allocation(400000)
+        .mark_cut(3);
+    let named = named
+        .builder(DefaultHashBuilder::new())
+        .lifecycle(DefaultLifecycle::new());
     let mut texts: Cache<u64, &str, ByLength> = expect_ok!(rt; named.make_unsync(rt.alloc()));
     expect_eq!(rt; texts.put(1, "four"), Ok(()));
     expect_eq!(rt; (texts.weight(), texts.capacity()), (4, 1 << 20));

@@ -28,6 +28,21 @@ fn abandon(rt: HostRuntime) -> Result<(), Fail> {
 }
 
 #[test]
+fn a_guard_by_insert_with_lifecycle(rt: HostRuntime) -> Result<(), Fail> {
+    let cache: Cache<u64, u64> = Cache::new(rt.alloc(), 2)?;
+    cache.put(&rt, 1, 1)?;
+    cache.put(&rt, 2, 4)?;
+    let GuardResult::Guard(guard) = cache.get_value_or_guard(&rt, &3, None) else {
+        panic!(rt; "the key is absent");
+    };
+    // The default lifecycle keeps the first two pairs that leave in a call.
+    let mut gone = [None, None];
+    expect!(rt; guard.insert_with_lifecycle(9, &mut gone).is_ok());
+    expect!(rt; gone[0].is_some() && gone[1].is_none());
+    Ok(())
+}
+
+#[test]
 fn entry_async(rt: HostRuntime) -> Result<(), Fail> {
     let cache: Cache<u64, u64> = Cache::new(rt.alloc(), 100)?;
     expect_eq!(rt; cache.insert(&rt, 4, 16), Ok(()));

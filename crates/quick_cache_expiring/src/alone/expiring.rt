@@ -1,5 +1,5 @@
 //! A cache for one thread whose entries end.
-ghost use Rattle.std.specs.Prelude.{◌≡◌, ◌^◌, ◌-◌, min, IfOk, IfErr, IsOk};
+ghost use Rattle.std.specs.Prelude.{◌≡◌, IfOk, IfErr, IsOk};
 ghost use Rattle.quick_cache_model.specs.CacheState.{empty_state, item_count};
 ghost use Rattle.quick_cache_model.specs.Sizes.{hot_target_of, ghost_limit_of, default_hot_share, default_ghost_share};
 ghost use Rattle.quick_cache_model.specs.Touches.{counted_up};
@@ -28,8 +28,8 @@ pub struct Expiring<
     pub(crate) cache: Cache<K, Lasting<V>, ByValue<We>, B, L, A>,
     // How many looks found what was over.
     pub(crate) expired: u64,
-    // For how many of these the cache counted the miss.
-    pub(crate) missed: u64,
+    // How many of these were loads that were then refused, of which the cache counted no miss.
+    pub(crate) refused: u64,
     // The token behind which the next purge of some goes on.
     pub(crate) from: Option<Token>,
 }
@@ -43,7 +43,7 @@ impl<K: Eq + Hash, V, We, B: BuildHasher, L, A: Allocator> Model for Expiring<K,
     ghost view = { λ entries. record {
       cache = entries.cache;
       expired = entries.expired;
-      missed = entries.missed;
+      refused = entries.refused;
       from = number_or_zero entries.from;
     } };
 }
@@ -67,7 +67,7 @@ impl<K: Eq + Hash, V, A: Allocator> Expiring<
         A: Clone,
         ensures makes { IfOk result (λ made. made.cache.state ≡ empty_state items
             (hot_target_of items default_hot_share) (ghost_limit_of items default_ghost_share)) }
-        ensures none { IfOk result (λ made. (made.expired ≡ 0) × (made.missed ≡ 0)
+        ensures none { IfOk result (λ made. (made.expired ≡ 0) × (made.refused ≡ 0)
             × (made.from ≡ 0)) }
         ensures succeeds { A.is_infallible alloc → IsOk result }
         ensures refused { IfErr result (λ refusal. refusal ≡ Refusal.Memory) }
@@ -108,7 +108,7 @@ impl<K: Eq + Hash, V, We, B: BuildHasher, L, A: Allocator> Expiring<K, V, We, B,
         ensures weigher { IfOk result (λ made. made.cache.weigher.weigher ≡ weigher) }
         ensures builder { IfOk result (λ made. made.cache.builder ≡ builder) }
         ensures lifecycle { IfOk result (λ made. made.cache.lifecycle ≡ lifecycle) }
-        ensures none { IfOk result (λ made. (made.expired ≡ 0) × (made.missed ≡ 0)
+        ensures none { IfOk result (λ made. (made.expired ≡ 0) × (made.refused ≡ 0)
             × (made.from ≡ 0)) }
         ensures succeeds { A.is_infallible alloc → IsOk result }
         ensures refused { IfErr result (λ refusal. refusal ≡ Refusal.Memory) }
@@ -118,7 +118,7 @@ impl<K: Eq + Hash, V, We, B: BuildHasher, L, A: Allocator> Expiring<K, V, We, B,
         Ok(Expiring {
             cache,
             expired: 0,
-            missed: 0,
+            refused: 0,
             from: None,
         })
     }
@@ -140,17 +140,13 @@ impl<K: Eq + Hash, V, We, B: BuildHasher, L, A: Allocator> Expiring<K, V, We, B,
     /// What the looks found.
     pub fn stats(&self) -> Stats
         ensures hits { result.hits ≡ self.now.cache.state.hits }
-        // A load that found what was over counts as one miss, too.
-        ensures misses { result.misses ≡ counted_up (self.now.expired - self.now.missed)
-            self.now.cache.state.misses }
+        // A load that found what was over and was refused counts as a miss, too.
+        ensures misses { result.misses ≡ counted_up self.now.refused self.now.cache.state.misses }
         ensures expired { result.expired ≡ self.now.expired }
     {
         Stats {
             hits: self.cache.hits(),
-            misses: self
-                .cache
-                .misses()
-                .saturating_add(self.expired.saturating_sub(self.missed)),
+            misses: self.cache.misses().saturating_add(self.refused),
             expired: self.expired,
         }
     }

@@ -1,14 +1,14 @@
 //! Looks at entries that may be over.
-ghost use Rattle.std.specs.Prelude.{◌≡◌, None, option_copied};
+ghost use Rattle.std.specs.Prelude.{◌≡◌, not, option_copied};
 ghost use Rattle.std.specs.Borrow.{sem};
-ghost use Rattle.std.specs.Bool.{OnTrue, OnFalse};
 ghost use Rattle.quick_cache_model.specs.Lookups.{Sees};
-ghost use Rattle.quick_cache_shard.specs.Shard.{IsSoundShard};
-ghost use Rattle.quick_cache_expiring.specs.Entries.{Drops, Expires, Gets, HasNoneOver, HasOver, Shows};
+ghost use Rattle.quick_cache_expiring.specs.Entries.{Expires, Finds, Gets, Shows, expired_after, is_failed};
+ghost use Rattle.quick_cache_expiring.specs.Lives.{lives};
 
 use crate::alone::expiring::Expiring;
+use crate::lasting::Lasting;
 use quick_cache_model::Equivalent;
-use quick_cache_shard::Typed;
+use quick_cache_shard::{Miss, Token, Typed};
 use std::alloc::Allocator;
 use std::hash::{BuildHasher, Hash};
 
@@ -48,6 +48,7 @@ impl<K: Eq + Hash, V, We, B: BuildHasher, L, A: Allocator> Expiring<K, V, We, B,
     /// Looks the query's key up, and gives its value where it serves at this moment: the entry is
     /// marked and read, and a hit is counted. An entry that is over is taken out, and counts as a
     /// miss and as expired. No hook is called, and no memory taken.
+    #[inline(always)]
     pub fn get<Q: Equivalent<K>>(&mut self, query: &Q, now: u64) -> Option<&V>
     where
         K: Drop,
@@ -55,62 +56,57 @@ impl<K: Eq + Hash, V, We, B: BuildHasher, L, A: Allocator> Expiring<K, V, We, B,
         ensures* gets { sem 𝓛 (ends_so ⟦<Self as Typed>⟧.lender_row self.entry
             (λ new. Gets (Q.equivalent query.now) now self.old (option_copied result) new)) }
     {
-        if self.expires(query, now) {
-            return None;
-        }
-        let lasting = self.cache.get(query)?;
+        let token = self.find(query, now)?;
+        let lasting = self.cache.shard().peek_token(token)?;
         Some(&lasting.value)
     }
 
-    /// Takes the entry under the query's key out where it is over, counts that, and tells whether it
-    /// was.
+    /// Looks the query's key up, as `get` does, and gives the token of an entry that serves.
+    #[inline(always)]
+    fn find<Q: Equivalent<K>>(&mut self, query: &Q, now: u64) -> Option<Token>
+    where
+        K: Drop,
+        V: Drop,
+        ensures finds { Finds (Q.equivalent query.now) now self.old result self.new }
+    {
+        let serves = |lasting: &Lasting<V>| -> bool
+            ensures serves { result ≡ lives lasting.now.until now }
+        { lasting.lives(now) };
+        match self.cache.look_up_or_take(query, serves) {
+            Ok(token) => Some(token),
+            Err(taken) => {
+                self.count_over(Miss::of(taken));
+                None
+            }
+        }
+    }
+
+    /// Counts a look that found what was over.
+    pub(crate) fn count_over(&mut self, miss: Miss)
+        ensures { self.new ≡ record self.old {
+          expired = expired_after (is_failed miss) self.old.expired;
+        } }
+    {
+        if miss == Miss::Failed {
+            self.expired = self.expired.saturating_add(1);
+        }
+    }
+
+    /// Takes the entry under the query's key out where it is over, counts that, and tells whether
+    /// it was.
     pub(crate) fn expires<Q: Equivalent<K>>(&mut self, query: &Q, now: u64) -> bool
     where
         K: Drop,
         V: Drop,
-        ensures gets { OnTrue result (Gets (Q.equivalent query.now) now self.old None self.new) }
-        ensures expires { OnTrue result (Expires (Q.equivalent query.now) now self.old self.new) }
-        ensures same { OnFalse result (self.new ≡ self.old) }
-        ensures none { OnFalse result
-            (HasNoneOver (Q.equivalent query.now) now self.old.cache.state) }
+        ensures expires { Expires (Q.equivalent query.now) now self.old result self.new }
     {
-        if self.drops_over(query, now) {
+        let is_over = |lasting: &Lasting<V>| -> bool
+            ensures over { result ≡ not (lives lasting.now.until now) }
+        { !lasting.lives(now) };
+        if self.cache.remove_if(query, is_over).is_some() {
             self.expired = self.expired.saturating_add(1);
             return true;
         }
         false
-    }
-
-    /// Takes the entry under the query's key out where it is over, and tells whether it was.
-    fn drops_over<Q: Equivalent<K>>(&mut self, query: &Q, now: u64) -> bool
-    where
-        K: Drop,
-        V: Drop,
-        ensures drops { OnTrue result (Drops (Q.equivalent query.now) now self.old self.new) }
-        ensures same { OnFalse result (self.new ≡ self.old) }
-        ensures none { OnFalse result
-            (HasNoneOver (Q.equivalent query.now) now self.old.cache.state) }
-    {
-        if !self.is_over(query, now) {
-            return false;
-        }
-        let _ = self.cache.remove(query);
-        true
-    }
-
-    /// Whether the entry under the query's key is over.
-    fn is_over<Q: Equivalent<K>>(&self, query: &Q, now: u64) -> bool
-        ensures over { OnTrue result (HasOver (Q.equivalent query.now) now self.now.cache.state) }
-        ensures none { OnFalse result
-            (HasNoneOver (Q.equivalent query.now) now self.now.cache.state) }
-        ensures sound { IsSoundShard K.eq self.now.cache }
-    {
-        let Some(lasting) = self.cache.peek(query) else {
-            return false;
-        };
-        if lasting.lives(now) {
-            return false;
-        }
-        true
     }
 }

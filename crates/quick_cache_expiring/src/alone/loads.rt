@@ -2,7 +2,7 @@
 ghost use Rattle.std.specs.Prelude.{◌≡◌};
 ghost use Rattle.quick_cache_model.specs.Hashing.{hash_of, StandsForGiven};
 ghost use Rattle.quick_cache_expiring.specs.Lives.{end_of};
-ghost use Rattle.quick_cache_expiring.specs.Loads.{GivesWithEnd, LoadsAt, missed_after};
+ghost use Rattle.quick_cache_expiring.specs.Loads.{GivesWithEnd, LoadsAt, refused_after};
 
 use crate::alone::expiring::Expiring;
 use crate::by_value::ByValue;
@@ -56,19 +56,19 @@ impl<
             }
         };
         let answer = self.cache.load(query, lasts);
-        self.misses(over, &answer);
+        self.refuses(over, &answer);
         answer
     }
 
-    /// Counts that the cache counted the miss of a load that found what was over, which it does
-    /// unless the load was refused.
-    fn misses<E>(&mut self, over: bool, answer: &Result<Result<bool, E>, Refusal>)
+    /// Counts that the cache counted no miss of a load that found what was over, since it refused
+    /// the load.
+    fn refuses<E>(&mut self, over: bool, answer: &Result<Result<bool, E>, Refusal>)
         ensures { self.new ≡ record self.old {
-          missed = missed_after over answer.now self.old.missed;
+          refused = refused_after over answer.now self.old.refused;
         } }
     {
-        if over && answer.is_ok() {
-            self.missed = self.missed.saturating_add(1);
+        if over && answer.is_err() {
+            self.refused = self.refused.saturating_add(1);
         }
     }
 }

@@ -6,7 +6,7 @@ ghost use Rattle.quick_cache_shard.specs.Alone.{IsDoneAlone};
 ghost use Rattle.quick_cache_shard.specs.Shard.{KeepsTerms, KeepsWork, UpToOrder, WorksAsWrite};
 ghost use Rattle.quick_cache_shard.specs.Steps.{InsertsBy, rules_in};
 ghost use Rattle.quick_cache_unsync.specs.Touches.{no_touches};
-ghost use Rattle.quick_cache_expiring.specs.Lives.{end_of};
+ghost use Rattle.quick_cache_expiring.specs.Lives.{end_of, lives};
 ghost use Rattle.quick_cache_expiring.specs.Entries.{KeepsRest, Touches};
 ghost use Rattle.quick_cache_expiring.specs.Lastings.{lasting_of};
 
@@ -65,16 +65,20 @@ impl<
             self.old.cache) (Q.equivalent query.now) now (end_of now life) self.old result
             self.new }
     {
-        if self.expires(query, now) {
-            return false;
-        }
         let until = end_of(now, life);
-        let Some(mut lasting) = self.cache.get_mut(query) else {
-            return false;
+        let serves = |lasting: &Lasting<V>| -> bool
+            ensures serves { result ≡ lives lasting.now.until now }
+        { lasting.lives(now) };
+        let miss = match self.cache.get_mut_or_drop(query, serves) {
+            Ok(mut lasting) => {
+                lasting.until = until;
+                drop(lasting);
+                return true;
+            }
+            Err(miss) => miss,
         };
-        lasting.until = until;
-        drop(lasting);
-        true
+        self.count_over(miss);
+        false
     }
 }
 

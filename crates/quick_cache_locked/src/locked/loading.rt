@@ -2,10 +2,11 @@
 ghost use Rattle.std.specs.Prelude.{◌≡◌, IfOk};
 ghost use Rattle.quick_cache_model.specs.Hashing.{StandsForGiven};
 ghost use Rattle.quick_cache_model.specs.Placeholders.{GivesUpPlaceholder};
+ghost use Rattle.quick_cache_shard.specs.Loading.{BeginsLoad};
 ghost use Rattle.quick_cache_shard.specs.Shard.{KeepsPlaces, UpToOrder};
 ghost use Rattle.quick_cache_loading.specs.Begins.{IfFound};
 ghost use Rattle.quick_cache_locked.specs.Fitting.{ClonesFit, FitsQuery};
-ghost use Rattle.quick_cache_locked.specs.Loads.{AwaitsNoEqual, BeginsLoad, EndsLoadBy, EndsSomeLoad};
+ghost use Rattle.quick_cache_locked.specs.Loads.{AwaitsNoEqual, EndsLoadBy, EndsSomeLoad, begun_of};
 ghost use Rattle.quick_cache_locked.specs.Locked.{IsKept};
 ghost use Rattle.quick_cache_locked.specs.Touches.{any_touches};
 
@@ -35,7 +36,7 @@ impl<
         requires stands { StandsForGiven (Q.to_key_gives query.now) (Q.equivalent query.now) }
         ensures begins { BeginsLoad (λ placeholder. placeholder.ticket) (Q.equivalent query.now)
             (Q.to_key_gives query.now) (⟦<Self as Keyed>⟧.hash self.old.builder
-            (Q.hash_input query.now)) V.is_clone self.old.state result self.new.state }
+            (Q.hash_input query.now)) V.is_clone self.old.state (begun_of result) self.new.state }
         ensures fits { ClonesFit L.fits V.is_clone → IfOk result
             (λ begun. IfFound begun (λ value. FitsQuery L.fits (Q.equivalent query.now) value)) }
         ensures same { self.new ≡ record self.old { state = self.new.state; room = self.new.room } }
@@ -43,13 +44,9 @@ impl<
     {
         self.facts();
         let hash = self.shard.hash(query);
-        match self.shard.find_copy(hash, query) {
-            Ok(Some(copy)) => Ok(Begun::Found(copy)),
-            Ok(None) => match self.shard.get_or_placeholder(&self.maker, hash, query) {
-                Ok(Ok(_)) => unreachable!(),
-                Ok(Err((placeholder, _))) => Ok(Begun::Loading(placeholder)),
-                Err(refusal) => Err(refusal),
-            },
+        match self.shard.copy_or_placeholder(&self.maker, hash, query) {
+            Ok(Ok(copy)) => Ok(Begun::Found(copy)),
+            Ok(Err(placeholder)) => Ok(Begun::Loading(placeholder)),
             Err(refusal) => Err(refusal),
         }
     }

@@ -6,7 +6,7 @@ ghost use Rattle.quick_cache_model.specs.Lookups.{looked_up};
 ghost use Rattle.quick_cache_model.specs.Removal.{Removes};
 ghost use Rattle.quick_cache_model.specs.CacheState.{UpToOrder};
 ghost use Rattle.quick_cache_policy.specs.Contents.{state_of};
-ghost use Rattle.quick_cache_policy.specs.Copies.{FindsCopy};
+ghost use Rattle.quick_cache_policy.specs.Copies.{CopiesItem, FindsCopy};
 ghost use Rattle.quick_cache_policy.specs.Entering.{CountsHit};
 ghost use Rattle.quick_cache_policy.specs.Finding.{AreUnder, IsLookedUp, IsMissed};
 ghost use Rattle.quick_cache_policy.specs.Places.{places_of, LosesOnly};
@@ -37,7 +37,7 @@ impl<K: Eq + Hash, V, P: SharedPlaceholder<K>, A: Allocator> Contents<K, V, P, A
         } }
     {
         let Some(token) = self.find_item(hash, query) else {
-            self.misses = self.misses.saturating_add(1);
+            self.count_miss();
             return None;
         };
         self.count_hit(token, hash, query);
@@ -71,16 +71,43 @@ impl<K: Eq + Hash, V, P: SharedPlaceholder<K>, A: Allocator> Contents<K, V, P, A
           hits = self.new.hits;
         } }
     {
-        self.lists.facts();
         let Some(token) = self.find_item(hash, query) else {
             return Ok(None);
         };
+        Ok(Some(self.copy_item(token, hash, query)?))
+    }
+
+    /// A clone of the value of an item that the query found, which is looked up: the clone is made
+    /// before the hit is counted.
+    #[inline(always)]
+    pub(crate) fn copy_item<Q: Equivalent<K>>(
+        &mut self,
+        token: Token,
+        hash: u64,
+        query: &Q,
+    ) -> Result<V, Refusal>
+    where
+        V: Clone,
+        requires found { FindsItem (Q.equivalent query.now) hash self.old.lists (number token) }
+        ensures copies { CopiesItem (Q.equivalent query.now) V.is_clone
+            (state_of P.ticket_of self.old) result (state_of P.ticket_of self.new) }
+        ensures succeeds { ((value : V) → V.is_infallible value) → IsOk result }
+        ensures sound { KeepsSound P.ticket_of K.eq self.old self.new }
+        // No item moves.
+        ensures places { places_of self.new.lists ≡ places_of self.old.lists }
+        ensures room { self.new.lists.room ≡ self.old.lists.room }
+        ensures same { self.new ≡ record self.old {
+          lists = self.new.lists;
+          hits = self.new.hits;
+        } }
+    {
+        self.lists.facts();
         let copy: Result<_, _> = self.lists.item(token).value().clone();
         let Ok(copy) = copy else {
             return Err(Refusal::Memory);
         };
         self.count_hit(token, hash, query);
-        Ok(Some(copy))
+        Ok(copy)
     }
 
     /// The item under the query.

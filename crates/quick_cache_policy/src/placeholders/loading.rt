@@ -7,8 +7,9 @@ ghost use Rattle.quick_cache_model.specs.CacheState.{UpToOrder};
 ghost use Rattle.quick_cache_model.specs.Placeholders.{MeetsPlaceholder};
 ghost use Rattle.quick_cache_policy.specs.Contents.{IsSound, state_of};
 ghost use Rattle.quick_cache_policy.specs.Finding.{AreUnder};
-ghost use Rattle.quick_cache_policy.specs.Loading.{IsMadeUnder, Makes, LooksUpOrMakes};
+ghost use Rattle.quick_cache_policy.specs.Loading.{BeginsLoad, IsMadeUnder, Makes, LooksUpOrMakes};
 ghost use Rattle.quick_cache_policy.specs.Places.{places_of};
+ghost use Rattle.quick_cache_policy.specs.Stays.{KeepsSound};
 
 use crate::contents::Contents;
 use quick_cache_model::{MakesPlaceholders, Queue, Refusal, SharedPlaceholder, ToKey, Token};
@@ -152,6 +153,7 @@ impl<K: Eq + Hash + Drop, V: Drop, P: SharedPlaceholder<K>, A: Allocator> Conten
             (MeetsPlaceholder (Q.equivalent query.now) (state_of P.ticket_of self.old)
             (P.own_ticket result))
             (state_of P.ticket_of self.new) }
+        ensures sound { KeepsSound P.ticket_of K.eq self.old self.new }
         ensures same { self.new ≡ record self.old { hits = self.new.hits } }
     {
         self.lists.facts();
@@ -204,6 +206,53 @@ impl<K: Eq + Hash + Drop, V: Drop, P: SharedPlaceholder<K>, A: Allocator> Conten
             Found::Loading(token) => Ok(Err((self.meet_placeholder(token, hash, query), false))),
             Found::Ghost(token) => Ok(Err((self.make_on_ghost(maker, token, hash, query)?, true))),
             Found::Nothing => Ok(Err((self.make_on_nothing(maker, hash, query)?, true))),
+        }
+    }
+
+    /// Looks the query's key up as `get_or_placeholder` does, and gives a clone of the value that
+    /// it finds. The clone is made first, so that a refused one counts nothing.
+    #[inline(always)]
+    pub fn copy_or_placeholder<Q: ToKey<K>, M: MakesPlaceholders<K, P>>(
+        &mut self,
+        maker: &M,
+        hash: u64,
+        query: &Q,
+    ) -> Result<Result<V, P>, Refusal>
+    where
+        V: Clone,
+        requires under { AreUnder (Q.equivalent query.now) hash self.old.lists }
+        requires stands { StandsForGiven (Q.to_key_gives query.now) (Q.equivalent query.now) }
+        ensures begins { BeginsLoad P.own_ticket (Q.equivalent query.now)
+            (Q.to_key_gives query.now) hash V.is_clone (state_of P.ticket_of self.old) result
+            (state_of P.ticket_of self.new) }
+        ensures sound { (hashed : K → ℕ)
+            → ((key : K) → Q.equivalent query.now key ≡ true → hashed key ≡ hash)
+            → IsSound P.ticket_of K.eq hashed self.old
+            → IsSound P.ticket_of K.eq hashed self.new }
+        // No item moves.
+        ensures places { places_of self.new.lists ≡ places_of self.old.lists }
+        ensures room { self.old.lists.room ≤ self.new.lists.room + 1 }
+        ensures same { self.new ≡ record self.old {
+          lists = self.new.lists;
+          hits = self.new.hits;
+          misses = self.new.misses;
+          next_ticket = self.new.next_ticket;
+        } }
+    {
+        match self.find_by_key(hash, query) {
+            Found::Item(token) => match self.copy_item(token, hash, query) {
+                Ok(copy) => Ok(Ok(copy)),
+                Err(refusal) => Err(refusal),
+            },
+            Found::Loading(token) => Ok(Err(self.meet_placeholder(token, hash, query))),
+            Found::Ghost(token) => match self.make_on_ghost(maker, token, hash, query) {
+                Ok(placeholder) => Ok(Err(placeholder)),
+                Err(refusal) => Err(refusal),
+            },
+            Found::Nothing => match self.make_on_nothing(maker, hash, query) {
+                Ok(placeholder) => Ok(Err(placeholder)),
+                Err(refusal) => Err(refusal),
+            },
         }
     }
 }

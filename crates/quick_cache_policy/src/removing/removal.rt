@@ -36,10 +36,10 @@ impl<K: Eq + Hash, V, P: SharedPlaceholder<K>, A: Allocator> Contents<K, V, P, A
         ensures same { self.new ≡ record self.old { lists = self.new.lists } }
     {
         self.lists.facts();
-        let Some(token) = self.find_item(hash, query) else {
+        let Some((token, goes)) = self.test_item(hash, query, wanted) else {
             return None;
         };
-        if !wanted(self.lists.item(token).value()) {
+        if !goes {
             return None;
         }
         Some(self.take_item(token))

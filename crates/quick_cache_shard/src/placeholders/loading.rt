@@ -3,7 +3,7 @@ ghost use Rattle.std.specs.Prelude.{◌≡◌, ℕ, Bool, true, IfErr, MatchOpti
 ghost use Rattle.quick_cache_model.specs.Hashing.{StandsForGiven};
 ghost use Rattle.quick_cache_model.specs.Placeholders.{GivesUpPlaceholder, HasNoTicket};
 ghost use Rattle.quick_cache_policy.specs.Filling.{AwaitsKey};
-ghost use Rattle.quick_cache_shard.specs.Loading.{FindsToken, HasNoneWanted, IsMadeUnder, LooksUpOrMakes, MeansByTicket};
+ghost use Rattle.quick_cache_shard.specs.Loading.{BeginsLoad, FindsToken, HasNoneWanted, IsMadeUnder, LooksUpOrMakes, MeansByTicket};
 ghost use Rattle.quick_cache_shard.specs.Shard.{LosesOnly, UpToOrder, IsSoundShard};
 ghost use Rattle.quick_cache_shard.specs.Stays.{IdlesWithin};
 
@@ -55,6 +55,33 @@ impl<
         ensures stays { IdlesWithin K.eq 1 self.old self.new }
     {
         let answer = self.contents.get_or_placeholder(maker, hash, query);
+        self.facts();
+        answer
+    }
+
+    /// Looks the query's key up as `get_or_placeholder` does, and gives a clone of the value that
+    /// it finds, which is made first.
+    ///
+    /// # Errors
+    ///
+    /// As there, and `Memory` where the clone failed. Nothing has changed then.
+    #[inline(always)]
+    pub fn copy_or_placeholder<Q: ToKey<K>, M: MakesPlaceholders<K, P>>(
+        &mut self,
+        maker: &M,
+        hash: u64,
+        query: &Q,
+    ) -> Result<Result<V, P>, Refusal>
+    where
+        V: Clone,
+        requires hash_is { hash ≡ ⟦<Self as Keyed>⟧.hash self.old.builder (Q.hash_input query.now) }
+        requires stands { StandsForGiven (Q.to_key_gives query.now) (Q.equivalent query.now) }
+        ensures begins { BeginsLoad P.own_ticket (Q.equivalent query.now)
+            (Q.to_key_gives query.now) hash V.is_clone self.old.state result self.new.state }
+        ensures places { self.new.places ≡ self.old.places }
+        ensures stays { IdlesWithin K.eq 1 self.old self.new }
+    {
+        let answer = self.contents.copy_or_placeholder(maker, hash, query);
         self.facts();
         answer
     }

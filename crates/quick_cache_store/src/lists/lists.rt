@@ -105,7 +105,7 @@ impl<K, V, P, T, A: Allocator> Lists<K, V, P, T, A> {
         self.slots.facts();
         self.slots.reserve(additional)?;
         grow_index(&self.slots, &mut self.index, additional)?;
-        // For up to twice as many entries, so that rings are moved seldom.
+        // For as many as slots and index have room for, so that rings are moved seldom.
         let room = self.slots.spare().min(self.index.room());
         self.rings
             .reserve(entries + room.min(additional.max(entries)))?;

@@ -6,10 +6,7 @@ ghost use Rattle.quick_cache_store.specs.Pool.{next_token, spare, IsFull, IsPart
 use crate::pool::{Blank, MAX_SLOTS, Pool, past};
 use quick_cache_model::Token;
 use std::alloc::Allocator;
-use std::mem;
-
-/// How many bytes the stack of free tokens has for each slot.
-const TOKEN_BYTES: usize = 4;
+use std::mem::{size_of, size_of_val};
 
 impl<T: Blank, A: Allocator> Pool<T, A> {
     /// The token that the next item gets: 4294967295 where all slots are taken.
@@ -70,9 +67,13 @@ impl<T: Blank, A: Allocator> Pool<T, A> {
         self.items.allocator()
     }
 
-    /// The bytes of the slots, whether occupied or free, each with room for its token.
+    /// The bytes of the slots, whether occupied, free or room, and of the stack of free tokens.
     pub fn memory_used(&self) -> usize {
-        let tokens = self.items.len().saturating_mul(TOKEN_BYTES);
-        mem::size_of_val(self.items.as_slice()).saturating_add(tokens)
+        let blank = T::blank(0);
+        let a_slot = size_of_val(&blank);
+        blank.discard();
+        let items = self.items.capacity().saturating_mul(a_slot);
+        let free = self.free.capacity().saturating_mul(size_of::<u32>());
+        items.saturating_add(free)
     }
 }

@@ -6,7 +6,8 @@ use crate::pool::{Blank, MAX_SLOTS, Pool};
 use quick_cache_model::Refusal;
 use std::alloc::{AllocError, Allocator};
 
-/// Makes room for so many more where there is less, and then at least twice what there was.
+/// Makes room for so many more where there is less, and then for at least a quarter more than there
+/// was.
 pub fn make_room<X, A: Allocator>(
     items: &mut Vec<X, A>,
     additional: usize,
@@ -21,11 +22,12 @@ pub fn make_room<X, A: Allocator>(
         → IsOk result × (vec_capacity items.new ≡ vec_capacity items.old) }
     ensures err { OnErr result (vec_capacity items.new ≡ vec_capacity items.old) }
 {
-    if additional <= items.capacity() - items.len() {
+    let had = items.capacity();
+    if additional <= had - items.len() {
         return Ok(());
     }
-    let doubled = items.capacity().saturating_mul(2).max(4) - items.len();
-    items.reserve_exact(additional.max(doubled))
+    let grown = had.saturating_add((had / 4).max(4));
+    items.reserve_exact(additional.max(grown - items.len()))
 }
 
 impl<T: Blank, A: Allocator> Pool<T, A> {

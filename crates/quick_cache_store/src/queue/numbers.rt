@@ -3,6 +3,7 @@ ghost use Rattle.std.specs.Prelude.{◌≡◌, IfErr};
 
 use quick_cache_model::{Refusal, Token};
 use std::alloc::{Allocator, Global};
+use std::mem::size_of;
 
 /// For each token the number of its place in its queue.
 ///
@@ -31,10 +32,20 @@ impl<A: Allocator> Numbers<A> {
         if tokens < self.numbers.len() {
             return Ok(());
         }
-        match self.numbers.resize(tokens.saturating_add(1), 0) {
+        let wanted = tokens.saturating_add(1);
+        let more = wanted.saturating_sub(self.numbers.len());
+        if self.numbers.reserve_exact(more).is_err() {
+            return Err(Refusal::Memory);
+        }
+        match self.numbers.resize(wanted, 0) {
             Ok(()) => Ok(()),
             Err(_) => Err(Refusal::Memory),
         }
+    }
+
+    /// The bytes of the numbers.
+    pub(crate) fn memory_used(&self) -> usize {
+        self.numbers.capacity().saturating_mul(size_of::<u32>())
     }
 
     /// The number of a token, or 0 where it has none.

@@ -11,6 +11,7 @@ use crate::queue::numbers::Numbers;
 use quick_cache_model::{Refusal, Token};
 use std::alloc::{Allocator, Global};
 use std::collections::VecDeque;
+use std::mem::size_of;
 
 /// Tokens in their order, of which the first is the next to be visited.
 ///
@@ -79,6 +80,11 @@ impl<A: Allocator> TokenQueue<A> {
         places - places / 5
     }
 
+    /// The bytes of the places, with those of the room.
+    pub(crate) fn memory_used(&self) -> usize {
+        self.places.capacity().saturating_mul(size_of::<u32>())
+    }
+
     /// Makes room for so many tokens in all. A refusal is for want of memory, and changes nothing
     /// but the room.
     pub fn reserve(&mut self, tokens: usize) -> Result<(), Refusal>
@@ -97,7 +103,7 @@ impl<A: Allocator> TokenQueue<A> {
         // and again closes up seldom, and never for a few places.
         let places = tokens.saturating_add(tokens / 4).saturating_add(1);
         let more = places.saturating_sub(self.places.len());
-        match self.places.reserve(more) {
+        match self.places.reserve_exact(more) {
             Ok(()) => Ok(()),
             Err(_) => Err(Refusal::Memory),
         }

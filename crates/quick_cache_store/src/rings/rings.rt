@@ -13,10 +13,6 @@ use quick_cache_model::{Queue, Refusal, Token};
 use std::alloc::{Allocator, Global};
 use std::marker::Model;
 
-/// The bytes that a token takes: in each of three rings four and a quarter of them more, and four
-/// for its number.
-const BYTES_OF_A_TOKEN: usize = 19;
-
 // A clone of an allocator. A refusal is for want of memory.
 fn cloned<A: Clone>(alloc: &A) -> Result<A, Refusal>
     ensures succeeds { A.is_infallible alloc.now → IsOk result }
@@ -245,9 +241,14 @@ impl<A: Allocator> Rings<A> {
         }
     }
 
-    /// The bytes of the rings and of the numbers, for all tokens that there is room for.
+    /// The bytes of the rings and of the numbers, with those of the room.
     pub fn memory_used(&self) -> usize {
-        self.capacity.saturating_mul(BYTES_OF_A_TOKEN)
+        let items = self.hot.queue.memory_used();
+        let items = items.saturating_add(self.cold.queue.memory_used());
+        let ghosts = self.ghosts.queue.memory_used();
+        items
+            .saturating_add(ghosts)
+            .saturating_add(self.numbers.memory_used())
     }
 
     /// Takes all tokens out, and keeps the room.

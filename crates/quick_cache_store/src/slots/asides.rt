@@ -11,7 +11,7 @@ use crate::slots::beside::{Beside, BesideRef};
 use quick_cache_model::Refusal;
 use std::alloc::{Allocator, Global};
 use std::marker::Model;
-use std::mem;
+use std::mem::size_of;
 
 /// For each slot what stands beside it, the mark of its item in a list of its own.
 #[derive(Drop)]
@@ -155,7 +155,7 @@ impl<A: Allocator> Asides<A> {
         self.marks.push_reserved(beside.mark);
     }
 
-    /// Makes room for so many more where there is less, and then at least twice what there was.
+    /// Makes room for so many more where there is less, as `make_room` does.
     ///
     /// A refusal is for want of memory: it may keep room that it got, and changes nothing else.
     pub(crate) fn reserve(&mut self, more: usize) -> Result<(), Refusal>
@@ -191,9 +191,9 @@ impl<A: Allocator> Asides<A> {
         self.marks.clear();
     }
 
-    /// The bytes of what stands beside the slots.
+    /// The bytes of what stands beside the slots, with those of the room.
     pub(crate) fn memory_used(&self) -> usize {
-        let marks = mem::size_of_val(self.marks.as_slice());
-        mem::size_of_val(self.asides.as_slice()).saturating_add(marks)
+        let asides = self.asides.capacity().saturating_mul(size_of::<Aside>());
+        asides.saturating_add(self.marks.capacity())
     }
 }

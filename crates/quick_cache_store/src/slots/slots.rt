@@ -201,7 +201,7 @@ impl<K, V, P, T, A: Allocator> Slots<K, V, P, T, A> {
         self.pool.allocator()
     }
 
-    /// The bytes of the slots, whether occupied or free, and of what stands beside them.
+    /// The bytes of the slots, whether occupied, free or room, and of what stands beside them.
     pub fn memory_used(&self) -> usize {
         let beside = self.asides.memory_used();
         self.pool.memory_used().saturating_add(beside)

@@ -34,6 +34,8 @@ pub enum Call {
     Load(u64, u64),
     /// The same, by the call that tells whose loader gave the value.
     LoadTold(u64, u64),
+    /// Loads the key by a loader that loads the next key of the same cache, with this value.
+    LoadBoth(u64, u64),
     /// Acts on the entry of a key, and does not wait.
     ActAs(u64, Choice),
     /// Removes even keys, and takes from their loads the right to be stored.
@@ -73,6 +75,16 @@ fn load<R: Wait>(rt: &R, cache: &Numbers, key: u64, value: u64) -> Told {
     told(answer, is_called)
 }
 
+/// Loads a key by a loader that loads the next one.
+fn load_both<R: Wait>(rt: &R, cache: &Numbers, key: u64, value: u64) -> Told {
+    let next = key.saturating_add(1);
+    let answer = cache.get_or_insert_with(rt, &key, || match load(rt, cache, next, value) {
+        Told::Loaded(value) => Ok(value),
+        _ => Err(()),
+    });
+    told(answer, true)
+}
+
 /// Loads a key by the call that tells whose loader gave the value.
 fn load_told<R: Wait>(rt: &R, cache: &Numbers, key: u64, value: u64) -> Told {
     match cache.get_or_insert_told(rt, &key, || given(value)) {
@@ -105,6 +117,7 @@ fn make<R: Wait + Clock + RandomSource + AllocGlobal>(
         Call::Step(step) => running.step(step),
         Call::Load(key, value) => Ok(load(rt, cache, key, value)),
         Call::LoadTold(key, value) => Ok(load_told(rt, cache, key, value)),
+        Call::LoadBoth(key, value) => Ok(load_both(rt, cache, key, value)),
         Call::ActAs(key, choice) => {
             let callback = |_: &u64, value: &mut u64| chosen(choice, value);
             let answer = cache.entry(rt, &key, Some(Duration::from_millis(0)), callback);

@@ -6,8 +6,8 @@ use quick_cache_shard::EntryAction;
 use quick_cache_sync::Cache;
 use std::sync::Wait;
 use std::test::Fail;
-use std::thread::{join, yield_now};
-use std::time::{Clock, Duration};
+use std::thread::{join, sleep, yield_now};
+use std::time::{Clock, CpuClock, Duration};
 use test_tools::{expect, expect_eq, expect_ok};
 
 type Numbers = Cache<u64, u64>;
@@ -104,6 +104,20 @@ fn who_loads_is_told_whether_its_loader_gave_the_value(rt: HostRuntime) -> Resul
 }
 
 #[test]
+fn a_loader_uses_its_cache(rt: HostRuntime) -> Result<(), Fail> {
+    // All keys of so small a cache have one shard.
+    answers(
+        &rt,
+        8,
+        &[
+            (Call::LoadBoth(4, 40), Told::Loaded(40)),
+            (Call::Step(Step::Get(4)), Told::Value(40)),
+            (Call::Step(Step::Get(5)), Told::Value(40)),
+        ],
+    )
+}
+
+#[test]
 fn a_guard_whose_placeholder_left_is_gone(rt: HostRuntime) -> Result<(), Fail> {
     // All keys of so small a cache have one shard.
     answers(
@@ -168,4 +182,28 @@ fn one_of_two_threads_loads_what_a_third_gave_up(rt: HostRuntime) {
     );
     expect_eq!(rt; (first.min(second), first.max(second)), (7, 100));
     expect_eq!(rt; cache.get(rt, &1), Ok(Some(7)));
+}
+
+#[test]
+fn a_thread_that_waits_sleeps(rt: HostRuntime) {
+    let cache: Numbers = expect_ok!(rt; Cache::new(rt.alloc(), 100));
+    let (rt, cache) = (&rt, &cache);
+    let GuardResult::Guard(guard) = cache.get_value_or_guard(rt, &1, None) else {
+        panic!(rt; "the key is absent");
+    };
+    let ((value, before, after), filled) = join(
+        rt,
+        move || {
+            let before = rt.thread_cpu_time();
+            let value = outcome(rt, cache, 1, None);
+            (value, before, rt.thread_cpu_time())
+        },
+        move || {
+            await_hits(rt, cache, 1);
+            sleep(rt, Duration::from_millis(400));
+            guard.insert(7).is_ok()
+        },
+    );
+    let took = expect_ok!(rt; after).saturating_sub(expect_ok!(rt; before));
+    expect_eq!(rt; (value, filled, took < Duration::from_millis(100)), (7, true, true));
 }

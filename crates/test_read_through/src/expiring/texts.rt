@@ -1,5 +1,7 @@
 //! Texts that find what is kept under a `String`, by what the crates themselves give on.
-use quick_cache_expiring::{Expiring, Text, TextIn};
+use quick_cache_expiring::{
+    DefaultHashBuilder, DefaultLifecycle, Expiring, Lasting, Text, TextIn, UnitWeighter,
+};
 use quick_cache_expiring_sync::SharedExpiring;
 use quick_cache_model::Refusal;
 use std::alloc::Global;
@@ -9,11 +11,16 @@ use test_tools::{Rationed, expect, expect_eq, expect_ok};
 #[test]
 fn a_text_finds_and_loads_what_ends(rt: HostRuntime) {
     let alloc = rt.alloc();
-    let mut ages: Expiring<String, u64> = expect_ok!(rt; Expiring::new(alloc, 8));
+    let (builder, lifecycle) = (DefaultHashBuilder::new(), DefaultLifecycle::new());
+    let mut ages: Expiring<String, u64> =
+        expect_ok!(rt; Expiring::with(alloc, 8, 8, UnitWeighter, builder, lifecycle));
     let loader = || -> Result<u64, Infallible> { Ok(30) };
     expect_eq!(rt; ages.load(&TextIn::new(alloc, "anna"), 0, 10, loader), Ok(Ok(true)));
     expect_eq!(rt; ages.get(&Text("anna"), 9).copied(), Some(30));
     expect!(rt; ages.get(&Text("ann"), 9).is_none());
+    expect_eq!(rt; ages.cache().weight(), 1);
+    let removed = ages.remove(&Text("anna"));
+    expect!(rt; matches!(removed, Some((_, Lasting { value: 30, until: 10 }))));
 }
 
 #[test]

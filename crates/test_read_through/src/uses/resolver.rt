@@ -49,6 +49,8 @@ pub fn tell<R: Wait + Clock>(
     asked: &[(&'static str, u64)],
     told: &mut Vec<(Option<&'static str>, bool)>,
 ) -> Result<(), Refusal> {
+    // `asked` are names, each with a second; `ask` gives an `Answer` with its life, or `Away`.
+    // What is 200 seconds old is asked for anew.
     let answers: ReadThrough<&'static str, Answer, _, AnySource, Global, ByAnswer> =
         ReadThrough::new(alloc, 100, ByAnswer, ask)?.with_grace(60);
     for (name, second) in asked {

@@ -40,13 +40,16 @@ pub fn token_of<R: Wait + Clock, F: Fn(&u64, u64) -> Result<Token, String>>(
 #[cfg(test)]
 mod tests {
     use super::*;
+    use read_through::UnitWeighter;
     use test_tools::{expect_eq, expect_ok};
 
     #[test]
     fn a_token_is_signed_anew_when_it_is_too_old(rt: HostRuntime) {
-        let tokens: ReadThrough<u64, Token, _, Signer> = expect_ok!(rt; ReadThrough::new(
+        let tokens: ReadThrough<u64, Token, _, Signer> = expect_ok!(rt; ReadThrough::with(
             rt.alloc(),
             100,
+            100,
+            UnitWeighter,
             60,
             |user: &u64, now: u64| -> Result<Token, String> {
                 Ok(Token {

@@ -1,4 +1,7 @@
-//! Calls that spare their caller a step: pairs are put, walked in a loop, and loaded with an answer.
+//! Calls that spare their caller a step: pairs are put, walked in a loop, looked at by a test, and
+//! loaded with an answer.
+use crate::asked::{Ask, Said, answers};
+use crate::unsync::great::AsItself;
 use quick_cache_unsync::{Cache, LoadError, NotLoaded, Refusal};
 use std::io;
 use test_tools::{expect_eq, expect_ok};
@@ -14,6 +17,29 @@ fn pairs_that_are_put_are_met_in_a_loop(rt: HostRuntime) {
         sum = sum.saturating_add(key.saturating_add(*value));
     }
     expect_eq!(rt; sum, 30);
+}
+
+#[test]
+fn what_fails_a_test_is_a_miss_and_stays_or_is_dropped(rt: HostRuntime) {
+    let mut cache = expect_ok!(rt; Cache::with_weighter(rt.alloc(), 9, 100, AsItself));
+    let row = &[
+        (Ask::Insert(1, 10), Said::Done),
+        (Ask::GetIf(1, 10), Said::Value(10)),
+        (Ask::GetIf(1, 11), Said::Is(false)),
+        (Ask::GetIf(2, 10), Said::Nothing),
+        (Ask::Counts, Said::Counts([1, 10, 100, 1, 2])),
+        (Ask::GetOrDrop(1, 10), Said::Value(10)),
+        (Ask::SetOrDrop(1, 10, 20), Said::Done),
+        (Ask::Reads(1), Said::Count(3)),
+        (Ask::Counts, Said::Counts([1, 20, 100, 3, 2])),
+        (Ask::GetOrDrop(1, 10), Said::Is(false)),
+        (Ask::GetOrDrop(1, 20), Said::Nothing),
+        (Ask::Insert(2, 30), Said::Done),
+        (Ask::SetOrDrop(2, 10, 20), Said::Is(false)),
+        (Ask::SetOrDrop(2, 30, 20), Said::Nothing),
+        (Ask::Counts, Said::Counts([0, 0, 100, 3, 6])),
+    ];
+    answers(&rt, &mut cache, row);
 }
 
 /// What a load answers by a loader that gives this.

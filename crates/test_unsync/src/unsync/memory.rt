@@ -51,6 +51,40 @@ const ARENA: usize = 1 << 26;
 /// The bytes that an entry needs: its pair, weight, marks and reads, and what finds it.
 const ENTRY: usize = 64;
 
+/// The bytes that blocks lose where they are laid out in an arena: less than 8 for each of ten.
+const LAYOUT: usize = 80;
+
+#[test]
+fn memory_used_tells_what_is_allocated(rt: HostRuntime) {
+    for entries in [1, 10, 1000, 10000] {
+        let arena = expect_ok!(rt; Bump::try_with_capacity(rt.alloc(), ARENA));
+        let first = arena.chunk_capacity();
+        let mut cache = expect_ok!(rt; Cache::new(&arena, 10000));
+        expect_ok!(rt; cache.reserve(entries));
+        let asked = first.saturating_sub(arena.chunk_capacity());
+        let used = cache.memory_used().total();
+        let lost = asked.saturating_sub(used);
+        expect_eq!(rt; (entries, asked, used, used <= asked), (entries, asked, used, true));
+        expect_eq!(rt; (entries, lost, lost < LAYOUT), (entries, lost, true));
+        inserts(&rt, &mut cache, 0..1);
+        expect_eq!(rt; cache.memory_used().total(), used);
+    }
+}
+
+/// The bytes of an entry of two numbers in a cache that has room for a quarter of entries more.
+const WITH_ROOM: usize = 90;
+
+#[test]
+fn a_cache_has_room_for_a_quarter_of_its_entries_at_most(rt: HostRuntime) {
+    let mut cache = expect_ok!(rt; Cache::new(rt.alloc(), 10000));
+    for key in 0..10000 {
+        inserts(&rt, &mut cache, key..key + 1);
+        let used = cache.memory_used().entries;
+        let is_little = used <= cache.len().saturating_add(5).saturating_mul(WITH_ROOM);
+        expect_eq!(rt; (key, used, is_little), (key, used, true));
+    }
+}
+
 #[test]
 fn a_growth_asks_for_at_most_four_times_its_need(rt: HostRuntime) {
     let arena = expect_ok!(rt; Bump::try_with_capacity(rt.alloc(), ARENA));

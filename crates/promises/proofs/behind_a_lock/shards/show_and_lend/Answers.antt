@@ -1,6 +1,6 @@
 use Rattle.std.proofs.Common.{◌∙◌, ap, Some, option_copied}
 use Rattle.std.specs.Int.NonZero.{non_zero_u32_get as number}
-use Rattle.promises.proofs.LentLemmas.{one-value, no-value}
+use Rattle.quick_cache_shard.proofs.TokenValueLemmas.{one-value, no-value}
 use Rattle.promises.proofs.behind_a_lock.shards.show_and_lend.Goals as goal
 
 -- the value that is lent is the one that is shown

@@ -1,27 +1,28 @@
 use Rattle.std.proofs.Common.{rules, refl}
 use Rattle.quick_cache_shard.specs.WalksFrom.{number_or_zero}
 use Rattle.quick_cache_expiring.specs.Entries.{Entries}
-use Rattle.quick_cache_expiring.proofs.LoadLemmas.{AnswersLoad-weaker, ExpiresIf-told, ExpiresIf-same, KeepsTerms-after}
+use Rattle.quick_cache_expiring.proofs.LoadLemmas.{AnswersLoad-weaker, KeepsTerms-after}
 use Rattle.quick_cache_expiring.proofs.alone.expiring.Expiring.load.Goals as goal
 
 -- what is over goes first, and the loader's value has the new end
 pub returns : goal.returns
 returns g c =
-    let test = g.Q.Equivalent.equivalent c.args.query.now in
-    let told = ExpiresIf-told test c.args.now c.args.self.now c.expires-over.new.self
-    c.expires-over.result c.expires-over.ensures.expires c.expires-over.ensures.same
-    c.expires-over.ensures.none in
-    let expires = rw (← c.self.view_is) at told in
+    let expires = rw (← c.self.view_is) at c.expires-over.ensures.expires in
     let mid : Entries g.row.K.Denot g.row.V.Denot g.row.We.Denot g.row.B.Denot g.row.L.Denot =
-    record { cache = c.self.inside.cache; expired = c.self.inside.expired; missed = c.self.inside.missed; from = number_or_zero c.self.inside.from } in
     record {
-      loads = rw (← c.end_of-until.ensures, c.misses.ensures) (record {
+      cache = c.self.inside.cache;
+      expired = c.self.inside.expired;
+      refused = c.self.inside.refused;
+      from = number_or_zero c.self.inside.from;
+    } in
+    record {
+      loads = rw (← c.end_of-until.ensures, c.refuses.ensures) (record {
         over = c.expires-over.result;
         mid = mid;
         expires = expires;
         loads = AnswersLoad-weaker _ _ _ _ _ _ _ _ _ (λ r given. search rules) _ _ _ c.load-answer.ensures.loads;
         same = KeepsTerms-after c.args.self.now.cache c.self.inside.cache c.load-answer.new.self
-            (ExpiresIf-same test c.args.now c.args.self.now mid c.expires-over.result expires) c.load-answer.ensures.same;
+            expires.same c.load-answer.ensures.same;
         rest = refl;
       });
     }

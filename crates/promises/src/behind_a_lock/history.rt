@@ -1,0 +1,67 @@
+//! What those rely on who make their calls in one history.
+ghost use Rattle.std.specs.Prelude.{◌≡◌, ◌+◌, length, IfSome};
+ghost use mathlib.Core.List.{IsPrefix};
+ghost use Rattle.quick_cache_model.specs.declared.calls.call.Call.{Call};
+ghost use Rattle.quick_cache_model.specs.declared.calls.reply.Reply.{Reply};
+ghost use Rattle.quick_cache_history.specs.Seats.{HasCall};
+
+use quick_cache_history::{Naming, Recorded, Seat};
+use quick_cache_model::{DefaultHashBuilder, UnitWeighter};
+use quick_cache_sync::DefaultLifecycle;
+use std::sync::Wait;
+use std::thread::{Threads, join};
+
+/// A cache of numbers.
+type Numbers<J> = Recorded<
+    u64,
+    u64,
+    UnitWeighter,
+    DefaultHashBuilder,
+    DefaultLifecycle<u64, u64>,
+    J,
+>;
+
+/// Who writes and then reads has seen its write, once, and is shown nothing older than it had seen.
+pub fn write_and_read<J: Naming, R: Wait>(
+    rt: &R,
+    numbers: &Numbers<J>,
+    mut seat: Seat<u64, u64, J>,
+    key: u64,
+    value: u64,
+) -> Option<Seat<u64, u64, J>>
+    ensures longer { IfSome result (λ new. IsPrefix seat.seen new.seen) }
+    ensures made { IfSome result (λ new. HasCall (Call.Insert key value) Reply.Done new.seen) }
+    ensures once { IfSome result (λ new. length new.mine ≡ length seat.mine + 1) }
+{
+    match numbers.insert(rt, &mut seat, key, value) {
+        Ok(()) => {
+            let _ = numbers.get(rt, &mut seat, &key);
+            Some(seat)
+        }
+        Err(_) => None,
+    }
+}
+
+/// Two threads write a pair each. Who has learned of both has both writes in one history.
+pub fn two_writes<J: Naming + Send + Sync, R: Threads + Wait + Sync>(
+    rt: &R,
+    numbers: &Numbers<J>,
+    first: Seat<u64, u64, J>,
+    second: Seat<u64, u64, J>,
+) -> Option<Seat<u64, u64, J>>
+    ensures first { IfSome result (λ seat. HasCall (Call.Insert 1 10) Reply.Done seat.seen) }
+    ensures second { IfSome result (λ seat. HasCall (Call.Insert 2 20) Reply.Done seat.seen) }
+{
+    let (one, two) = join(
+        rt,
+        move || -> Option<Seat<u64, u64, J>>
+            ensures { IfSome result (λ seat. HasCall (Call.Insert 1 10) Reply.Done seat.seen) }
+        { write_and_read(rt, numbers, first, 1, 10) },
+        move || -> Option<Seat<u64, u64, J>>
+            ensures { IfSome result (λ seat. HasCall (Call.Insert 2 20) Reply.Done seat.seen) }
+        { write_and_read(rt, numbers, second, 2, 20) },
+    );
+    let mut both = one?;
+    both.learn(&two?);
+    Some(both)
+}

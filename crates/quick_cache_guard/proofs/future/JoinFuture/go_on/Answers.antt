@@ -1,0 +1,13 @@
+use Rattle.std.proofs.Common.{◌≡◌, rules}
+use Rattle.quick_cache_guard.proofs.future.JoinFuture.go_on.Goals as goal
+
+-- whoever looks again was told so
+pub returns-in-Looks-clause-again : goal.returns-in-Looks-clause-again
+returns-in-Looks-clause-again g c =
+    let query : c.self.inside.query.now ≡ c.args.self.now.query = search rules in
+    rw query at c.look.ensures.again
+
+pub returns-in-Waits-clause-again : goal.returns-in-Waits-clause-again
+returns-in-Waits-clause-again g c =
+    let query : c.self.inside.query.now ≡ c.args.self.now.query = search rules in
+    rw query at c.wait.ensures.again

@@ -1,0 +1,78 @@
+-- A shard that stands at the end of its calls, and one call more.
+use Rattle.std.proofs.Common.{◌≡◌, ℕ, Bool, List, [], ◌∷◌, ◌++◌, Option, None, sym, subst}
+use Rattle.quick_cache_model.specs.CacheState.{CacheState, UpToOrder}
+use Rattle.quick_cache_model.specs.CacheStep.{CacheStep}
+use Rattle.quick_cache_model.specs.Hooks.{Rules, Hooks}
+use Rattle.quick_cache_model.specs.Removal.{Removes}
+use Rattle.quick_cache_model.specs.Writes.{Insert as insertion}
+use Rattle.quick_cache_model.specs.declared.calls.call.Call.{Call}
+use Rattle.quick_cache_model.specs.declared.calls.reply.Reply.{Reply}
+use Rattle.quick_cache_locked.specs.Touches.{any_touches}
+use Rattle.quick_cache_policy.specs.declared.policy.Terms.{Terms}
+use Rattle.quick_cache_policy.specs.Policies.{rules_by}
+use Rattle.quick_cache_shard.specs.Shard.{Shard, Wrote, terms_of}
+use Rattle.quick_cache_shard.specs.Steps.{Goes, steady_in, hooks_in, rules_in}
+use Rattle.quick_cache_history.specs.declared.entry.Entry.{Entry}
+use Rattle.quick_cache_history.specs.Histories.{first_in, calls_of}
+use Rattle.quick_cache_history.specs.KeptShards.{StandsAtEnd}
+use Rattle.quick_cache_history.specs.Runs.{AreTold, IsStep, Lead}
+
+module _ {K V We B L S : Type 0} (goes : Goes K V We B L S) (is_default : S → Type 0)
+    (equal : K → K → Bool) (number : ℕ) (log : List (Entry K V)) where
+  -- a run of these calls from that state, by the rules and the hooks of such terms
+  abbrev Runs : (state : CacheState K V) → Terms We B L × CacheState K V × List (Entry K V) → Type 0
+  Runs state x = Lead (rules_by goes any_touches x.0) equal (goes.hooks x.0) is_default x.1 x.2 state
+
+  -- before the first call
+  pub StandsAtEnd-begins : (shard : Shard K V We B L) → calls_of number log ≡ []
+      → shard.state ≡ first_in log → StandsAtEnd goes is_default equal number log shard
+  StandsAtEnd-begins shard none empty steady = subst
+      (λ (x : CacheState K V × List (Entry K V)). Lead (rules_in goes any_touches shard) equal
+      (hooks_in goes shard) is_default (first_in log) x.1 x.0)
+      (λ i. (sym empty i, sym none i)) Lead.begins
+
+  module _ (new : List (Entry K V)) (first : first_in new ≡ first_in log)
+      (old left : Shard K V We B L) (same : terms_of left ≡ terms_of old)
+      (stands : StandsAtEnd goes is_default equal number log old) where
+    -- where no call more of the shard is there, it stands where it stood
+    pub StandsAtEnd-same : calls_of number new ≡ calls_of number log → left.state ≡ old.state
+        → StandsAtEnd goes is_default equal number new left
+    StandsAtEnd-same calls state steady = subst (λ s. Runs s (terms_of left, first_in new, calls_of number new)) (sym state)
+        (subst (Runs old.state) (λ i. (sym same i, sym first i, sym calls i))
+        (stands (subst goes.steady same steady)))
+
+    -- and where one more is, it made the step
+    pub StandsAtEnd-push : (entry : Entry K V)
+        → calls_of number new ≡ calls_of number log ++ entry ∷ []
+        → (steady_in goes old → IsStep (rules_in goes any_touches old) equal (hooks_in goes old)
+        is_default old.state entry left.state)
+        → StandsAtEnd goes is_default equal number new left
+    StandsAtEnd-push entry calls step steady =
+        let was : steady_in goes old = subst goes.steady same steady in
+        subst (Runs left.state) (λ i. (sym same i, sym first i, sym calls i))
+        (Lead.goes_on (calls_of number log) old.state entry left.state (stands was) (step was))
+
+module _ {K V S : Type 0} (rules : Rules K V) (equal : K → K → Bool) (hooks : Hooks K V S)
+    (is_default : S → Type 0) (old new : CacheState K V) (turn next shard : ℕ) where
+  -- an insert that was written is a step of its definition
+  pub inserts : (steady : Type 0) → steady → (key : K) (value : V) (first last : S)
+      → is_default first → Wrote steady hooks rules equal insertion old first key value None new last
+      → IsStep rules equal hooks is_default old
+      (Entry.Made turn next shard (Call.Insert key value) Reply.Done) new
+  inserts steady is_steady key value first last begins wrote = record {
+    hook_calls = wrote.step.calls;
+    step = CacheStep.inserts key value wrote.step.calls new wrote.provided
+        (wrote.step.holds.0 is_steady);
+    told = AreTold.some wrote.step.calls first last begins wrote.step.runs;
+  }
+
+  -- and so is a removal
+  pub removes : (key : K) (pair : Option (K × V))
+      → UpToOrder (Removes (equal key) old (rules.hash key) pair) new
+      → IsStep rules equal hooks is_default old
+      (Entry.Made turn next shard (Call.Remove key) (Reply.Pair pair)) new
+  removes key pair step = record {
+    hook_calls = [];
+    step = CacheStep.removes key pair new step;
+    told = AreTold.none;
+  }

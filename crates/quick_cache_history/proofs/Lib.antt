@@ -1,0 +1,6 @@
+pub mod CallerLemmas
+mod CountLemmas
+mod KeptLemmas
+mod PastLemmas
+mod PrefixLemmas
+mod SeatLemmas

@@ -1,0 +1,30 @@
+-- What a lock keeps: a shard, and the history that it stands for.
+use Rattle.std.specs.Prelude.{ℕ, Bool, List}
+use Rattle.quick_cache_locked.specs.Touches.{any_touches}
+use Rattle.quick_cache_shard.specs.Shard.{Shard}
+use Rattle.quick_cache_shard.specs.Steps.{Goes, steady_in, hooks_in, rules_in}
+use Rattle.quick_cache_history.specs.declared.entry.Entry.{Entry}
+use Rattle.quick_cache_history.specs.Histories.{first_in, calls_of}
+use Rattle.quick_cache_history.specs.Pasts.{Known}
+use Rattle.quick_cache_history.specs.Runs.{Lead}
+
+-- the shard, and a beginning of the history in which all its calls are
+pub record KeptShard (K V We B L : Type 0) : Type 0 where
+  pub shard : Shard K V We B L
+  pub known : Known K V
+
+module _ {K V We B L S : Type 0} (goes : Goes K V We B L S) (is_default : S → Type 0)
+    (equal : K → K → Bool) where
+  -- Where pinning is steady, the shard is what the calls of this number in the history make of an
+  -- empty one.
+  abbrev pub StandsAtEnd : (number : ℕ) → List (Entry K V) → Shard K V We B L → Type 0
+  StandsAtEnd number log shard = steady_in goes shard
+      → Lead (rules_in goes any_touches shard) equal (hooks_in goes shard) is_default (first_in log)
+      (calls_of number log) shard.state
+
+  -- There is such a shard, and this holds of it.
+  pub record AtEnd (number : ℕ) (log : List (Entry K V)) (P : Shard K V We B L → Type 0) : Type 0
+    where
+      pub shard : Shard K V We B L
+      pub stands : StandsAtEnd number log shard
+      pub holds : P shard

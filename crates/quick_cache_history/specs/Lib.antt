@@ -1,0 +1,7 @@
+pub mod Histories
+pub mod KeptShards
+pub mod Laws
+pub mod Openings
+pub mod Pasts
+pub mod Runs
+pub mod Seats

@@ -1,0 +1,51 @@
+//! A value with its size beside it.
+ghost use Rattle.std.specs.Prelude.{◌≡◌};
+
+use crate::bytes::HasBytes;
+use crate::pins::Held;
+use std::ops::Deref;
+
+/// A value and its size, as who puts it tells it: for a type that is not `HasBytes`, or whose size
+/// takes long to find. The size takes 8 bytes of each entry, and is believed.
+#[derive(Debug, Clone, PartialEq, Eq, Drop)]
+pub struct WithBytes<V> {
+    /// The value.
+    pub value: V,
+    /// Its size. Who changes the value tells it anew.
+    pub bytes: u64,
+}
+
+impl<V> WithBytes<V> {
+    /// A value of that size.
+    pub fn new(value: V, bytes: u64) -> Self
+        ensures { result ≡ record { value = value; bytes = bytes } }
+    {
+        WithBytes { value, bytes }
+    }
+}
+
+impl<V> Deref for WithBytes<V> {
+    type Target = V;
+
+    ghost deref_gives = { λ sized value. value ≡ sized.value };
+
+    fn deref(&self) -> &V
+        ensures { result.now ≡ self.now.value }
+    {
+        &self.value
+    }
+}
+
+impl<V> HasBytes for WithBytes<V> {
+    ghost byte_count = { λ sized. sized.bytes };
+
+    fn byte_count(&self) -> u64 {
+        self.bytes
+    }
+}
+
+impl<V: Held> Held for WithBytes<V> {
+    fn is_held(&self) -> bool {
+        self.value.is_held()
+    }
+}
