@@ -14,4 +14,5 @@ pub use loaded::Loaded;
 pub use quick_cache_model::{
     Bytes, BytesIn, DefaultHashBuilder, Refusal, Text, TextIn, UnitWeighter, Weighter,
 };
+pub use quick_cache_options::options::{Error, Options, OptionsBuilder};
 pub use quick_cache_unsync::DefaultLifecycle;

@@ -11,5 +11,6 @@ pub use quick_cache_expiring::{ByValue, Lasting, Stats, end_of};
 pub use quick_cache_model::{
     Bytes, BytesIn, DefaultHashBuilder, Refusal, Text, TextIn, UnitWeighter, Weighter,
 };
+pub use quick_cache_options::options::{Error, Options, OptionsBuilder};
 pub use quick_cache_sync::DefaultLifecycle;
 pub use shared::SharedExpiring;

@@ -11,6 +11,7 @@ ghost use Rattle.quick_cache_expiring.specs.declared.by_value.ByValue.{ByValue};
 
 use quick_cache_expiring::{ByValue, Lasting, Stats};
 use quick_cache_model::{DefaultHashBuilder, Lifecycle, Refusal, UnitWeighter};
+use quick_cache_options::options::Options;
 use quick_cache_sync::{Cache, DefaultLifecycle};
 use std::alloc::{Allocator, Global};
 use std::hash::{BuildHasher, Hash};
@@ -121,6 +122,40 @@ impl<
     {
         let weigher = ByValue { weigher };
         let cache = Cache::with(alloc, items, weight, weigher, builder, lifecycle)?;
+        Ok(SharedExpiring {
+            cache,
+            expired: AtomicU64::new(0),
+            next_shard: AtomicUsize::new(0),
+            next_token: AtomicU32::new(0),
+        })
+    }
+
+    /// An empty cache with these options. It takes no lock, and allocates the list of its shards
+    /// alone.
+    ///
+    /// # Errors
+    ///
+    /// `Memory` where the list was refused, or a clone of the allocator, the weigher, the builder
+    /// or the lifecycle.
+    pub fn with_options(
+        alloc: A,
+        options: Options,
+        weigher: We,
+        builder: B,
+        lifecycle: L,
+    ) -> Result<Self, Refusal>
+    where
+        A: Clone,
+        We: Clone + Drop,
+        B: Clone + Drop,
+        L: Clone + Drop,
+        ensures shards { IfOk result (λ made. IsShardCount options.shards
+            options.estimated_items_capacity made.shards) }
+        ensures builder { IfOk result (λ made. made.builder ≡ builder) }
+        ensures refused { IfErr result (λ refusal. refusal ≡ Refusal.Memory) }
+    {
+        let weigher = ByValue { weigher };
+        let cache = Cache::with_options(alloc, options, weigher, builder, lifecycle)?;
         Ok(SharedExpiring {
             cache,
             expired: AtomicU64::new(0),

@@ -1,6 +1,7 @@
 //! Entries that are written with an end, renewed, and removed.
 ghost use Rattle.std.specs.Prelude.{IfOk, IfErr, IfSome, IsTrue};
 ghost use Rattle.quick_cache_model.specs.Hashing.{hash_of};
+ghost use Rattle.quick_cache_shard.specs.Inserts.{with_pair};
 ghost use Rattle.quick_cache_shard.specs.Shard.{Shard};
 ghost use Rattle.quick_cache_guard.specs.Answers.{IsLoadRefusal};
 ghost use Rattle.quick_cache_locked.specs.Fitting.{FitsQuery};
@@ -57,6 +58,29 @@ impl<
         let until = end_of(now, life);
         self.cache.insert(rt, key, Lasting { value, until })
     }
+
+    /// Inserts a pair as `insert` does, for who does not want a refused pair back: it is dropped.
+    ///
+    /// # Errors
+    ///
+    /// Why, as `insert` has it.
+    pub fn put<R: Wait>(&self, rt: &R, key: K, value: V, now: u64, life: u64) -> Result<(), Refusal>
+        requires fits { L.fits key (lasting_of value (end_of now life)) }
+        ensures answers { FromSome L.Lifecycle K.eq (λ shard.
+            InsertsAloneBy ⟦<Cache<K, Lasting<V>, ByValue<We>, B, L, A> as Ruled>⟧.goes K.eq shard
+            L.RequestState.is_default key (lasting_of value (end_of now life))
+            (with_pair key (lasting_of value (end_of now life)) result)) }
+    {
+        let until = end_of(now, life);
+        self.cache.put(rt, key, Lasting { value, until })
+    }
+
+    /// Sets the weight that the cache may hold, and hands what leaves to the lifecycle, as the cache's
+    /// own `set_capacity`. What is over counts like any other. It takes the write lock of each shard
+    /// in turn, and no memory.
+    pub fn set_capacity<R: Wait>(&self, rt: &R, capacity: u64) {
+        self.cache.set_capacity(rt, capacity);
+    }
 }
 
 impl<
@@ -77,6 +101,12 @@ impl<
         ensures fits { IfSome result (λ pair. FitsQuery L.fits (Q.equivalent query.now) pair.1) }
     {
         self.cache.remove(rt, query)
+    }
+
+    /// Drops all entries, and forgets those that left. The counts, the sizes and the memory stay. No
+    /// hook is called. It takes the write lock of each shard in turn.
+    pub fn clear<R: Wait>(&self, rt: &R) {
+        self.cache.clear(rt);
     }
 }
 

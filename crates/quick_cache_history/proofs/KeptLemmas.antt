@@ -9,7 +9,6 @@ use Rattle.quick_cache_model.specs.declared.calls.call.Call.{Call}
 use Rattle.quick_cache_model.specs.declared.calls.reply.Reply.{Reply}
 use Rattle.quick_cache_locked.specs.Touches.{any_touches}
 use Rattle.quick_cache_policy.specs.declared.policy.Terms.{Terms}
-use Rattle.quick_cache_policy.specs.Policies.{rules_by}
 use Rattle.quick_cache_shard.specs.Shard.{Shard, Wrote, terms_of}
 use Rattle.quick_cache_shard.specs.Steps.{Goes, steady_in, hooks_in, rules_in}
 use Rattle.quick_cache_history.specs.declared.entry.Entry.{Entry}
@@ -21,7 +20,7 @@ module _ {K V We B L S : Type 0} (goes : Goes K V We B L S) (is_default : S → 
     (equal : K → K → Bool) (number : ℕ) (log : List (Entry K V)) where
   -- a run of these calls from that state, by the rules and the hooks of such terms
   abbrev Runs : (state : CacheState K V) → Terms We B L × CacheState K V × List (Entry K V) → Type 0
-  Runs state x = Lead (rules_by goes any_touches x.0) equal (goes.hooks x.0) is_default x.1 x.2 state
+  Runs state x = Lead ((goes x.0).rules any_touches) equal (goes x.0).hooks is_default x.1 x.2 state
 
   -- before the first call
   pub StandsAtEnd-begins : (shard : Shard K V We B L) → calls_of number log ≡ []
@@ -39,7 +38,7 @@ module _ {K V We B L S : Type 0} (goes : Goes K V We B L S) (is_default : S → 
         → StandsAtEnd goes is_default equal number new left
     StandsAtEnd-same calls state steady = subst (λ s. Runs s (terms_of left, first_in new, calls_of number new)) (sym state)
         (subst (Runs old.state) (λ i. (sym same i, sym first i, sym calls i))
-        (stands (subst goes.steady same steady)))
+        (stands (subst (λ terms. (goes terms).steady) same steady)))
 
     -- and where one more is, it made the step
     pub StandsAtEnd-push : (entry : Entry K V)
@@ -48,7 +47,7 @@ module _ {K V We B L S : Type 0} (goes : Goes K V We B L S) (is_default : S → 
         is_default old.state entry left.state)
         → StandsAtEnd goes is_default equal number new left
     StandsAtEnd-push entry calls step steady =
-        let was : steady_in goes old = subst goes.steady same steady in
+        let was : steady_in goes old = subst (λ terms. (goes terms).steady) same steady in
         subst (Runs left.state) (λ i. (sym same i, sym first i, sym calls i))
         (Lead.goes_on (calls_of number log) old.state entry left.state (stands was) (step was))
 

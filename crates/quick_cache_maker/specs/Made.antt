@@ -1,7 +1,8 @@
 -- What a maker makes, and why it makes none.
 use Rattle.std.specs.Prelude.{◌≡◌, ℕ, List, Some, None}
+use Rattle.std.specs.declared.io.ErrorKind.{ErrorKind}
 use Rattle.quick_cache_model.specs.CacheState.{CacheState, empty_state}
-use Rattle.quick_cache_model.specs.RefusalTexts.{refusal_text}
+use Rattle.quick_cache_model.specs.RefusalTexts.{refusal_text, refusal_kind}
 use Rattle.quick_cache_model.specs.Sizes.{hot_target_of, ghost_limit_of}
 use Rattle.quick_cache_model.specs.declared.refusal.Refusal.{Refusal}
 use Rattle.quick_cache_options.specs.Options.{Choices, Settings, first_error}
@@ -25,3 +26,8 @@ IsMakeError choices (MakeError.Refused refusal) = (first_error choices ≡ None)
 abbrev pub make_error_text : MakeError → List ℕ
 make_error_text (MakeError.Options error) = error
 make_error_text (MakeError.Refused refusal) = refusal_text refusal
+
+-- which kind of error of input and output it is
+abbrev pub make_error_kind : MakeError → ErrorKind
+make_error_kind (MakeError.Options error) = ErrorKind.InvalidInput
+make_error_kind (MakeError.Refused refusal) = refusal_kind refusal

@@ -1,8 +1,10 @@
-//! Makes either cache by what is named; the rest has its default.
+//! Makes a cache by what is named; the rest has its default.
 #![tactic(auto)]
 
 mod error;
+mod expiring;
 mod maker;
+mod reading;
 mod shared;
 mod unsync;
 

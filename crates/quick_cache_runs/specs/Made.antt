@@ -9,7 +9,7 @@ use Rattle.quick_cache_model.specs.declared.calls.reply.Reply.{Reply}
 use Rattle.quick_cache_model.specs.CacheStep.{CacheStep}
 use Rattle.quick_cache_model.specs.CacheRun.{IsRun, RunsCalls}
 use Rattle.quick_cache_runs.specs.Conservation.{ConservesCalls}
-use Rattle.quick_cache_shard.specs.Shard.{Shard}
+use Rattle.quick_cache_shard.specs.Shard.{Shard, terms_of}
 use Rattle.quick_cache_shard.specs.Steps.{Goes, steady_in, hooks_in, rules_in}
 use Rattle.quick_cache_unsync.specs.Touches.{no_touches}
 use Rattle.quick_cache_runs.specs.Asked.{IsAskedAs}
@@ -71,19 +71,19 @@ module _ {K V We B L F M S : Type 0} (asks : Shared F (Bor K × (Bor V × Unit {
     abbrev pub RunsCallsBy : {A : Type 0} → List (Call K V F)
         → Result (Vec (Reply K V M) A) (Vec (Reply K V M) A × Vec (Call K V F) A)
         → (new : Shard K V We B L) → (last : S) → Type 0
-    RunsCallsBy calls result new last = steady_in goes old → (answers : F → K → V → Bool)
-        → All (IsAskedAs asks answers) calls
-        → RunsCalls (rules_in goes no_touches old) equal shows_key shows answers
-        (hooks_in goes old) old.state first calls result new.state last
+    RunsCallsBy calls result new last = (goes (terms_of old)).steady
+        → (answers : F → K → V → Bool) → All (IsAskedAs asks answers) calls
+        → RunsCalls ((goes (terms_of old)).rules no_touches) equal shows_key shows answers
+        (goes (terms_of old)).hooks old.state first calls result new.state last
 
     -- and they keep their pairs
     abbrev pub ConservesCallsBy : {A : Type 0} → List (Call K V F)
         → Result (Vec (Reply K V M) A) (Vec (Reply K V M) A × Vec (Call K V F) A)
         → (new : Shard K V We B L) → (last : S) → Type 0
-    ConservesCallsBy calls result new last = steady_in goes old → (answers : F → K → V → Bool)
-        → All (IsAskedAs asks answers) calls
-        → ConservesCalls (rules_in goes no_touches old) equal shows_key shows answers
-        (hooks_in goes old) old.state first calls result new.state last
+    ConservesCallsBy calls result new last = (goes (terms_of old)).steady
+        → (answers : F → K → V → Bool) → All (IsAskedAs asks answers) calls
+        → ConservesCalls ((goes (terms_of old)).rules no_touches) equal shows_key shows answers
+        (goes (terms_of old)).hooks old.state first calls result new.state last
 
 module _ (F : Type 0) {K V We B L S M : Type 0} (goes : Goes K V We B L S) (equal : K → K → Bool)
     (shows_key : K → K → Type 0) (shows : V → V → Type 0) (old : Shard K V We B L) where

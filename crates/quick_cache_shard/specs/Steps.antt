@@ -10,7 +10,6 @@ use Rattle.quick_cache_policy.specs.Filling.{AnswersFill}
 use Rattle.quick_cache_policy.specs.References.{ReweighsUnder}
 pub use Rattle.quick_cache_policy.specs.Restoring.{AnswersRestore}
 use Rattle.quick_cache_policy.specs.Writing.{Wrote, RefusesWrite}
-use Rattle.quick_cache_policy.specs.Policies.{rules_by}
 use Rattle.quick_cache_policy.specs.Inserts.{Inserts}
 use Rattle.quick_cache_policy.specs.Replaces.{Replaces}
 use Rattle.quick_cache_shard.specs.SetsCapacity.{SetsCapacityTo}
@@ -39,13 +38,13 @@ module _ {K V S : Type 0} (steady : Type 0) (hooks : Hooks K V S) (rules : Rules
 -- what it says of a shard: whether pinning is steady, the hooks that are called, and the rules
 module _ {K V We B L S : Type 0} (goes : Goes K V We B L S) where
   abbrev pub steady_in : Shard K V We B L → Type 0
-  steady_in shard = goes.steady (terms_of shard)
+  steady_in shard = (goes (terms_of shard)).steady
 
   abbrev pub hooks_in : Shard K V We B L → Hooks K V S
-  hooks_in shard = goes.hooks (terms_of shard)
+  hooks_in shard = (goes (terms_of shard)).hooks
 
   abbrev pub rules_in : (may_count : ℕ → Type 0) → Shard K V We B L → Rules K V
-  rules_in may_count shard = rules_by goes may_count (terms_of shard)
+  rules_in may_count shard = (goes (terms_of shard)).rules may_count
 
 module _ {K V We B L S : Type 0} (goes : Goes K V We B L S)
     (may_count : ℕ → Type 0) (old : Shard K V We B L) where

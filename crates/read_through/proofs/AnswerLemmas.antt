@@ -31,6 +31,7 @@ module _ {V E : Type 0} where
       → IfFresh given P
   IfFresh-loaded P loaded holds (Ok (Given.Fresh value)) own = subst (λ it. IfOk it P) own holds
   IfFresh-loaded P loaded holds (Ok (Given.Stale value error)) own = tt
+  IfFresh-loaded P loaded holds (Ok (Given.Unasked value)) own = tt
   IfFresh-loaded P loaded holds (Err error) own = tt
 
   -- where an older value is this one, what is true of that is true of it
@@ -38,6 +39,7 @@ module _ {V E : Type 0} where
       → IfStale given (λ value. value ≡ old) → IfStale given P
   IfStale-own P old holds (Ok (Given.Fresh value)) own = tt
   IfStale-own P old holds (Ok (Given.Stale value error)) own = subst P (sym own) holds
+  IfStale-own P old holds (Ok (Given.Unasked value)) own = subst P (sym own) holds
   IfStale-own P old holds (Err error) own = tt
 
   -- what a load gives is what a call of it may give

@@ -5,27 +5,26 @@ use denote.Param.Members.{Once}
 use Rattle.quick_cache_model.specs.declared.calls.entry.EntryAction.{EntryAction}
 use Rattle.quick_cache_guard.specs.Acts.{LeavesOnce, MayTell}
 use Rattle.quick_cache_expiring.specs.declared.loaded.Loaded.{Loaded}
-use Rattle.quick_cache_expiring.specs.Moments.{IsDue}
 use Rattle.read_through.specs.Answers.{GivesClones, IsOf}
-use Rattle.read_through.specs.Renewals.{ChoosesToClaim, ChoosesToRenew, Claims, IsClaimed, Renews}
+use Rattle.read_through.specs.Renewals.{ChoosesToClaim, ChoosesToRenew, Claims, IsClaimed, IsDueBy, Renews}
+use Rattle.read_through.specs.declared.pace.Pace.{Pace}
 
 -- what it told to be claimed was due
 pub Claims-told : {F K V : Type 0}
     (calls : Once F (Bor K × (MutBor (Loaded V) × Unit {0}))
     (EntryAction (Option ℕ) × (MutBor (Loaded V) × Unit {0})))
-    (fits : K → Loaded V → Type 0) (test : K → Bool) (callback : F) (refresh_after now : ℕ)
-    (claimed : Option ℕ) (told : MayTell (LeavesOnce calls callback) fits test claimed)
-    → ChoosesToClaim refresh_after now told.called.shown.now (EntryAction.Retain claimed)
+    (fits : K → Loaded V → Type 0) (test : K → Bool) (callback : F) (pace : Pace)
+    (now : ℕ) (claimed : Option ℕ) (told : MayTell (LeavesOnce calls callback) fits test claimed)
+    → ChoosesToClaim pace now told.called.shown.now (EntryAction.Retain claimed)
     told.called.left_by.now
-    → IfSome claimed (Claims fits test refresh_after now)
-Claims-told calls fits test callback refresh_after now (Some moment) told chosen = record {
+    → IfSome claimed (Claims fits test pace now)
+Claims-told calls fits test callback pace now (Some moment) told chosen = record {
   was = told.value;
-  due = subst (λ (loaded : Loaded _). IsDue loaded.asked refresh_after now) told.called.shows.1
-      chosen.0;
+  due = subst (IsDueBy pace now) told.called.shows.1 chosen.0;
   of = chosen.1 ∙ ap (λ (loaded : Loaded _). loaded.moment) told.called.shows.1;
   fits_query = record { key = told.key; stands = told.stands; fits_key = told.fits_key };
 }
-Claims-told calls fits test callback refresh_after now None told chosen = tt
+Claims-told calls fits test callback pace now None told chosen = tt
 
 -- what it told to be renewed was what was claimed
 pub Renews-told : {F K V : Type 0}

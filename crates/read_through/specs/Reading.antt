@@ -2,10 +2,11 @@
 use Rattle.std.specs.Prelude.{ℕ, Bool, Option}
 
 -- the loader, how long its values live, for how long after that they may be answered where a load
--- fails, and how many shards its cache has
+-- fails, how long it then is not asked again, and how many shards its cache has
 pub record Reading (L F : Type 0) : Type 0 where
   pub lives : L
   pub grace : ℕ
+  pub retry_after : ℕ
   pub loader : F
   pub shards : ℕ
 

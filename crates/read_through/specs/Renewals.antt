@@ -1,21 +1,34 @@
 -- Values whose loader is asked anew while they serve, beside other threads.
-use Rattle.std.specs.Prelude.{◌≡◌, ℕ, Bool, true, false, Option, Some, None}
+use Rattle.std.specs.Prelude.{◌≡◌, ℕ, nat_eq, Bool, true, false, Option, Some, None}
 use Rattle.quick_cache_model.specs.declared.calls.entry.EntryAction.{EntryAction}
 use Rattle.quick_cache_locked.specs.Fitting.{FitsQuery}
 use Rattle.quick_cache_expiring.specs.declared.loaded.Loaded.{Loaded}
 use Rattle.quick_cache_expiring.specs.Moments.{IsDue}
+use Rattle.read_through.specs.declared.pace.Pace.{Pace}
 
 module _ {V : Type 0} where
+  -- how long its loader then is not asked anew: the one time where it was not asked since the load,
+  -- else the other
+  abbrev pub pause_of : Pace → Loaded V → ℕ
+  pause_of pace loaded = pause (nat_eq loaded.asked loaded.moment)
+    where
+      pause : Bool → ℕ
+      pause true = pace.after_load
+      pause false = pace.after_try
+
+  -- its loader is to be asked anew
+  abbrev pub IsDueBy : Pace → (now : ℕ) → Loaded V → Type 0
+  IsDueBy pace now loaded = IsDue loaded.asked (pause_of pace loaded) now
+
   -- what is due is asked for now, and its moment is told; all else stays as it is
-  abbrev pub ChoosesToClaim : (refresh_after now : ℕ) → Loaded V → EntryAction (Option ℕ)
-      → Loaded V → Type 0
-  ChoosesToClaim refresh_after now old (EntryAction.Retain (Some moment)) new =
-      IsDue old.asked refresh_after now × (moment ≡ old.moment)
-      × (new ≡ record old { asked = now })
-  ChoosesToClaim refresh_after now old (EntryAction.Retain None) new =
-      (IsDue old.asked refresh_after now → ⊥) × (new ≡ old)
-  ChoosesToClaim refresh_after now old EntryAction.Remove new = ⊥
-  ChoosesToClaim refresh_after now old EntryAction.ReplaceWithGuard new = ⊥
+  abbrev pub ChoosesToClaim : Pace → (now : ℕ) → Loaded V → EntryAction (Option ℕ) → Loaded V
+      → Type 0
+  ChoosesToClaim pace now old (EntryAction.Retain (Some moment)) new =
+      IsDueBy pace now old × (moment ≡ old.moment) × (new ≡ record old { asked = now })
+  ChoosesToClaim pace now old (EntryAction.Retain None) new =
+      (IsDueBy pace now old → ⊥) × (new ≡ old)
+  ChoosesToClaim pace now old EntryAction.Remove new = ⊥
+  ChoosesToClaim pace now old EntryAction.ReplaceWithGuard new = ⊥
 
   -- it is of the moment that was claimed, and its loader was last asked now
   abbrev pub IsClaimed : (claimed now : ℕ) → Loaded V → Type 0
@@ -37,9 +50,9 @@ module _ {V : Type 0} where
 
 module _ {K V : Type 0} (fits : K → Loaded V → Type 0) (stands_for : K → Bool) where
   -- what stood under the query was due, and was of this moment
-  pub record Claims (refresh_after now moment : ℕ) : Type 0 where
+  pub record Claims (pace : Pace) (now moment : ℕ) : Type 0 where
     pub was : Loaded V
-    pub due : IsDue was.asked refresh_after now
+    pub due : IsDueBy pace now was
     pub of : moment ≡ was.moment
     pub fits_query : FitsQuery fits stands_for was
 

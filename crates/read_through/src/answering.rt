@@ -7,11 +7,12 @@ ghost use Rattle.quick_cache_expiring.specs.Moments.{Serves};
 ghost use Rattle.read_through.specs.Answers.{Answers, AnswersLate, GivesClones, IsOf};
 ghost use Rattle.read_through.specs.Renewals.{ChoosesToClaim, ChoosesToRenew, Claims, Renews};
 ghost use Rattle.read_through.specs.Serving.{ServesYoung};
-ghost use Rattle.read_through.specs.Givens.{IfFailed, IfFresh, IfStale};
+ghost use Rattle.read_through.specs.Givens.{IfFailed, IfFresh, IfStale, is_unasked};
 
 use crate::fresh::Fresh;
 use crate::given::{Given, Source};
 use crate::lives::Lives;
+use crate::pace::Pace;
 use crate::reading::{ReadThrough, ShardOf};
 use quick_cache_expiring::Loaded;
 use quick_cache_guard::{EntryResult, GuardResult, LoadingShard, PlaceholderGuard};
@@ -55,8 +56,9 @@ impl<
         Some(found.value)
     }
 
-    /// Answers what is stored and serves, or what the load gives, which is called once at most. It is
-    /// for what `served` does not answer; where nothing is there, the guard comes of its look.
+    /// Answers what is stored and serves, or what the load gives, which is called once at most; and
+    /// where the caller takes it, what is within the grace. It is for what `served` does not answer;
+    /// where nothing is there, the guard comes of its look.
     #[inline(never)]
     pub(crate) fn answer<R: Wait + Clock, E: Drop, G: FnOnce() -> Result<V, E>>(
         &self,
@@ -64,6 +66,7 @@ impl<
         key: &K,
         now: u64,
         refresh_after: u64,
+        takes_old: bool,
         load: G,
     ) -> Result<Result<Given<V, E>, E>, Refusal>
         requires keys { (copy : K) → K.is_clone key.now copy → IsTrue (K.eq key.now copy) }
@@ -74,6 +77,7 @@ impl<
             (Answers S.gives K.eq key.now (Li.life_of self.now.lives key.now) now)) }
         ensures stale { IfOk result (λ given. IfStale given (AnswersLate S.gives K.eq key.now
             (Li.life_of self.now.lives key.now) self.now.grace now)) }
+        ensures asked { takes_old ≡ false → IfOk result (λ given. is_unasked given ≡ false) }
         ensures error { IfOk result (λ given. IfFailed given (λ error. G.post load (Err error))) }
         ensures refused { IfErr result IsLoadRefusal }
     {
@@ -82,10 +86,15 @@ impl<
                 let life = self.lives.life(key, &found.value, found.moment);
                 if !found.serves(life, now) {
                     self.not_hits.fetch_add(1, Ordering::SeqCst);
+                    if takes_old && found.is_within(life, self.grace, now) {
+                        self.too_old.fetch_add(1, Ordering::SeqCst);
+                        return Ok(self.answer_late(rt, key, now, found, load));
+                    }
                     return self.answer_anew(rt, key, now, load);
                 }
                 if found.is_due(refresh_after, now) {
-                    if let Some(claimed) = self.claims(rt, key, now, refresh_after) {
+                    let pace = Pace::steady(refresh_after);
+                    if let Some(claimed) = self.claims(rt, key, now, pace) {
                         return Ok(self.renewed(rt, key, now, claimed, found, load()));
                     }
                 }
@@ -100,6 +109,40 @@ impl<
             GuardResult::Refused(Refusal::Memory) => self.answer_anew(rt, key, now, load),
             GuardResult::Refused(refusal) => Err(refusal),
         }
+    }
+
+    /// Answers what is within the grace. One call asks the loader for it, and again when `retry_after`
+    /// has passed; all others are answered it at once.
+    fn answer_late<R: Wait + Clock, E: Drop, G: FnOnce() -> Result<V, E>>(
+        &self,
+        rt: &R,
+        key: &K,
+        now: u64,
+        found: Loaded<V>,
+        load: G,
+    ) -> Result<Given<V, E>, E>
+        requires keys { (copy : K) → K.is_clone key.now copy → IsTrue (K.eq key.now copy) }
+        requires callable { G.pre load }
+        requires loads { (value : V) → G.post load (Ok value) → S.gives key.now now value }
+        requires clones { GivesClones S.gives V.is_clone }
+        requires late { AnswersLate S.gives K.eq key.now (Li.life_of self.now.lives key.now)
+            self.now.grace now found.value }
+        ensures fresh { IfFresh result
+            (Answers S.gives K.eq key.now (Li.life_of self.now.lives key.now) now) }
+        ensures stale { IfStale result (AnswersLate S.gives K.eq key.now
+            (Li.life_of self.now.lives key.now) self.now.grace now) }
+        ensures error { IfFailed result (λ error. G.post load (Err error)) }
+    {
+        let pace = Pace {
+            after_load: 0,
+            after_try: self.retry_after,
+        };
+        if found.is_due(pace.pause(&found), now) {
+            if let Some(claimed) = self.claims(rt, key, now, pace) {
+                return self.renewed(rt, key, now, claimed, found, load());
+            }
+        }
+        Ok(Given::Unasked(found.value))
     }
 
     /// The same where what was found is too old, or could not be cloned.
@@ -119,6 +162,7 @@ impl<
         ensures stale { IfOk result (λ given. IfStale given (AnswersLate S.gives K.eq key.now
             (Li.life_of self.now.lives key.now) self.now.grace now)) }
         ensures error { IfOk result (λ given. IfFailed given (λ error. G.post load (Err error))) }
+        ensures asked { IfOk result (λ given. is_unasked given ≡ false) }
         ensures refused { IfErr result IsLoadRefusal }
     {
         match self.look_anew(rt, key, now, None) {
@@ -196,18 +240,18 @@ impl<
         }
     }
 
-    /// Whether this call is to ask the loader anew for a value that serves: where nobody has within
-    /// that time, this is the moment at which it was asked last from now on. It tells the moment of
-    /// the value.
-    fn claims<R: Wait + Clock>(&self, rt: &R, key: &K, now: u64, refresh_after: u64) -> Option<u64>
+    /// Whether this call is to ask the loader anew for what is stored: where nobody has within that
+    /// time, this is the moment at which it was asked last from now on. It tells the moment of the
+    /// value.
+    fn claims<R: Wait + Clock>(&self, rt: &R, key: &K, now: u64, pace: Pace) -> Option<u64>
         requires keys { (copy : K) → K.is_clone key.now copy → IsTrue (K.eq key.now copy) }
         // What is claimed stood under the key, and nobody had asked for it anew.
         ensures claims { IfSome result
-            (Claims ⟦<Fresh<S> as Lifecycle<K, Loaded<V>>>⟧.fits (K.eq key.now) refresh_after now) }
+            (Claims ⟦<Fresh<S> as Lifecycle<K, Loaded<V>>>⟧.fits (K.eq key.now) pace now) }
     {
         let claims = |_key: &K, loaded: &mut Loaded<V>| -> EntryAction<Option<u64>>
-            ensures chooses { ChoosesToClaim refresh_after now loaded.old result loaded.new }
-        { claim(loaded, refresh_after, now) };
+            ensures chooses { ChoosesToClaim pace now loaded.old result loaded.new }
+        { claim(loaded, pace, now) };
         match self.cache.entry(rt, key, Some(Duration::ZERO), claims) {
             EntryResult::Retained(claimed) => {
                 self.not_hits.fetch_add(1, Ordering::SeqCst);
@@ -217,8 +261,8 @@ impl<
         }
     }
 
-    /// Answers what was loaded in the place of what serves, which it replaces where that is still what
-    /// was claimed. Where the load failed, what serves is answered.
+    /// Answers what was loaded in the place of what was found, which it replaces where that is still
+    /// what was claimed. Where the load failed, what was found is answered.
     fn renewed<R: Wait + Clock, E: Drop>(
         &self,
         rt: &R,
@@ -234,6 +278,7 @@ impl<
         ensures fresh { IfFresh result (λ value. loaded ≡ Ok value) }
         ensures stale { IfStale result (λ value. value ≡ found.value) }
         ensures failed { IfFailed result (λ error. loaded ≡ Err error) }
+        ensures asked { is_unasked result ≡ false }
     {
         match loaded {
             Ok(value) => {
@@ -299,6 +344,7 @@ impl<
         ensures stale { IfStale result (AnswersLate S.gives K.eq key.now
             (Li.life_of self.now.lives key.now) self.now.grace now) }
         ensures failed { IfFailed result (λ error. loaded ≡ Err error) }
+        ensures asked { is_unasked result ≡ false }
     {
         match loaded {
             Ok(value) => fill_with(guard, key, now, Ok(value)),
@@ -318,10 +364,10 @@ impl<
 }
 
 /// Claims what is due, and tells its moment.
-fn claim<V>(loaded: &mut Loaded<V>, refresh_after: u64, now: u64) -> EntryAction<Option<u64>>
-    ensures chooses { ChoosesToClaim refresh_after now loaded.old result loaded.new }
+fn claim<V>(loaded: &mut Loaded<V>, pace: Pace, now: u64) -> EntryAction<Option<u64>>
+    ensures chooses { ChoosesToClaim pace now loaded.old result loaded.new }
 {
-    if loaded.claim(refresh_after, now) {
+    if loaded.claim(pace.pause(loaded), now) {
         return EntryAction::Retain(Some(loaded.moment));
     }
     EntryAction::Retain(None)
@@ -347,6 +393,7 @@ fn as_given<V, E>(loaded: Result<V, E>) -> Result<Given<V, E>, E>
     ensures fresh { IfFresh result (λ value. loaded ≡ Ok value) }
     ensures stale { IfStale result (λ _. ⊥) }
     ensures failed { IfFailed result (λ error. loaded ≡ Err error) }
+    ensures asked { is_unasked result ≡ false }
 {
     match loaded {
         Ok(value) => Ok(Given::Fresh(value)),
@@ -375,6 +422,7 @@ fn fill_with<
     ensures fresh { IfFresh result (λ value. loaded ≡ Ok value) }
     ensures stale { IfStale result (λ _. ⊥) }
     ensures failed { IfFailed result (λ error. loaded ≡ Err error) }
+    ensures asked { is_unasked result ≡ false }
 {
     match loaded {
         Ok(value) => Ok(Given::Fresh(store(guard, key, now, value))),

@@ -2,7 +2,7 @@
 ghost use Rattle.std.specs.Prelude.{◌≡◌, IsTrue, Ok, Err, IfOk, IfErr, false};
 ghost use Rattle.quick_cache_guard.specs.Answers.{IsLoadRefusal};
 ghost use Rattle.read_through.specs.Answers.{Answers, AnswersLate, GivesClones};
-ghost use Rattle.read_through.specs.Givens.{IfFailed, IfFresh, IfStale};
+ghost use Rattle.read_through.specs.Givens.{IfFailed, IfFresh, IfStale, is_unasked};
 ghost use Rattle.read_through.specs.Loads.{Loads, LoadsFrom, LoadsOkFrom};
 
 use crate::future::GetFuture;
@@ -103,9 +103,10 @@ impl<
             requires { F.IsAlwaysCallable loader.now }
             ensures { IfOk result (Loads F.Fn loader.entry.now key.entry.now now) }
         { Ok(loader(key, now)) };
-        match self.answer(rt, key, now, refresh_after, load) {
+        match self.answer(rt, key, now, refresh_after, false, load) {
             Ok(Ok(Given::Fresh(value))) => Ok(value),
             Ok(Ok(Given::Stale { error, .. })) => match error {},
+            Ok(Ok(Given::Unasked(_))) => unreachable!(),
             Ok(Err(never)) => match never {},
             Err(refusal) => Err(refusal),
         }
@@ -147,9 +148,10 @@ impl<
             (λ error. Loads F.Fn self.now.loader key.now now (Err error))) }
         ensures refused { IfErr result IsLoadRefusal }
     {
-        match self.try_get_or_refresh(rt, key, now, u64::MAX) {
+        match self.try_answer(rt, key, now, u64::MAX, false) {
             Ok(Ok(Given::Fresh(value))) => Ok(Ok(value)),
             Ok(Ok(Given::Stale { error, .. })) => Ok(Err(error)),
+            Ok(Ok(Given::Unasked(_))) => unreachable!(),
             Ok(Err(error)) => Ok(Err(error)),
             Err(refusal) => Err(refusal),
         }
@@ -157,7 +159,8 @@ impl<
 
     /// As `get_or_refresh`, where the loader may fail. Then the value that still serves is answered
     /// beside the error, or the one that no longer does while its life and the grace are not over,
-    /// which is kept.
+    /// which is kept. For such a one the loader is asked once, and again when `retry_after` has passed;
+    /// all other calls are answered it at once, also while one asks.
     ///
     /// # Errors
     ///
@@ -184,6 +187,34 @@ impl<
             (λ error. Loads F.Fn self.now.loader key.now now (Err error))) }
         ensures refused { IfErr result IsLoadRefusal }
     {
+        self.try_answer(rt, key, now, refresh_after, true)
+    }
+
+    /// The same, where an older value that no longer serves is answered without a load only where the
+    /// caller takes it.
+    fn try_answer<R: Wait + Clock, E: Drop>(
+        &self,
+        rt: &R,
+        key: &K,
+        now: u64,
+        refresh_after: u64,
+        takes_old: bool,
+    ) -> Result<Result<Given<V, E>, E>, Refusal>
+    where
+        F: Fn(&K, u64) -> Result<V, E>,
+        requires keys { (copy : K) → K.is_clone key.now copy → IsTrue (K.eq key.now copy) }
+        requires callable { F.IsAlwaysCallable self.now.loader }
+        requires loads { LoadsOkFrom F.Fn self.now.loader S.gives }
+        requires clones { GivesClones S.gives V.is_clone }
+        ensures fresh { IfOk result (λ given. IfFresh given
+            (Answers S.gives K.eq key.now (Li.life_of self.now.lives key.now) now)) }
+        ensures stale { IfOk result (λ given. IfStale given (AnswersLate S.gives K.eq key.now
+            (Li.life_of self.now.lives key.now) self.now.grace now)) }
+        ensures error { IfOk result (λ given. IfFailed given
+            (λ error. Loads F.Fn self.now.loader key.now now (Err error))) }
+        ensures asked { takes_old ≡ false → IfOk result (λ given. is_unasked given ≡ false) }
+        ensures refused { IfErr result IsLoadRefusal }
+    {
         if let Some(value) = self.served(rt, key, now, refresh_after) {
             return Ok(Ok(Given::Fresh(value)));
         }
@@ -192,6 +223,6 @@ impl<
             requires { F.IsAlwaysCallable loader.now }
             ensures { Loads F.Fn loader.entry.now key.entry.now now result }
         { loader(key, now) };
-        self.answer(rt, key, now, refresh_after, load)
+        self.answer(rt, key, now, refresh_after, takes_old, load)
     }
 }

@@ -15,11 +15,15 @@ impl<K, V> Source<K, V> for AnySource {
     ghost gives = { λ _ _ _. Unit {0} };
 }
 
-/// A value that lives, or an older one beside the error of a load that failed.
+/// A value that lives, or an older one.
 #[derive(Debug, PartialEq, Drop)]
 pub enum Given<V, E> {
+    /// One that lives.
     Fresh(V),
+    /// An older one, beside the error of the load that failed.
     Stale { value: V, error: E },
+    /// An older one whose loader was not asked: another call asks it, or has lately.
+    Unasked(V),
 }
 
 /// How many gets found a value that serves, how many found none, and how many of these found one

@@ -8,6 +8,7 @@ mod future;
 mod gets;
 mod given;
 mod lives;
+mod pace;
 mod reading;
 
 pub use future::GetFuture;
@@ -15,4 +16,5 @@ pub use given::{AnySource, Given, Source, Stats};
 pub use lives::{ByAnswer, Lasting, Lives};
 pub use quick_cache_expiring::{ByValue, Loaded};
 pub use quick_cache_model::{Refusal, UnitWeighter, Weighter};
+pub use quick_cache_options::options::{Error, Options, OptionsBuilder};
 pub use reading::ReadThrough;

@@ -11,6 +11,7 @@ use crate::given::{AnySource, Source, Stats};
 use quick_cache_expiring::{ByValue, Loaded};
 use quick_cache_locked::LockedShard;
 use quick_cache_model::{DefaultHashBuilder, Lifecycle, Refusal, UnitWeighter, Weighter};
+use quick_cache_options::options::Options;
 use quick_cache_sync::Cache;
 use std::alloc::{Allocator, Global};
 use std::hash::Hash;
@@ -45,6 +46,7 @@ pub struct ReadThrough<
     pub(crate) cache: Cache<K, Loaded<V>, ByValue<We>, DefaultHashBuilder, Fresh<S>, A>,
     pub(crate) lives: Li,
     pub(crate) grace: u64,
+    pub(crate) retry_after: u64,
     pub(crate) loader: F,
     // How many gets found what is too old, which the cache counts as no miss.
     pub(crate) too_old: AtomicU64,
@@ -62,6 +64,7 @@ impl<K: Eq + Hash + Drop, V: Drop, F, S: Source<K, V>, A: Allocator, Li, We> Mod
     ghost view = { λ reading. record {
       lives = reading.lives;
       grace = reading.grace;
+      retry_after = reading.retry_after;
       loader = reading.loader;
       shards = reading.cache.shards;
     } };
@@ -90,6 +93,7 @@ impl<K: Eq + Hash + Drop, V: Drop, F, S: Source<K, V>, A: Allocator, Li> ReadThr
         ensures shards { IfOk result (λ made. IsShardCount default_shards capacity made.shards) }
         ensures lives { IfOk result (λ made. made.lives ≡ lives) }
         ensures grace { IfOk result (λ made. made.grace ≡ 0) }
+        ensures retry { IfOk result (λ made. made.retry_after ≡ 0) }
         ensures loader { IfOk result (λ made. made.loader ≡ loader) }
         ensures refused { IfErr result (λ refusal. refusal ≡ Refusal.Memory) }
     {
@@ -136,6 +140,7 @@ impl<K: Eq + Hash + Drop, V: Drop, F, S: Source<K, V>, A: Allocator, Li, We> Rea
         ensures shards { IfOk result (λ made. IsShardCount default_shards items made.shards) }
         ensures lives { IfOk result (λ made. made.lives ≡ lives) }
         ensures grace { IfOk result (λ made. made.grace ≡ 0) }
+        ensures retry { IfOk result (λ made. made.retry_after ≡ 0) }
         ensures loader { IfOk result (λ made. made.loader ≡ loader) }
         ensures refused { IfErr result (λ refusal. refusal ≡ Refusal.Memory) }
     {
@@ -147,14 +152,65 @@ impl<K: Eq + Hash + Drop, V: Drop, F, S: Source<K, V>, A: Allocator, Li, We> Rea
             DefaultHashBuilder::new(),
             Fresh::new(),
         )?;
-        Ok(ReadThrough {
+        Ok(ReadThrough::over(cache, lives, loader))
+    }
+
+    /// A loader with an empty cache of these options. The weigher sees key and value alone.
+    ///
+    /// # Errors
+    ///
+    /// As `with`.
+    pub fn with_options(
+        alloc: A,
+        options: Options,
+        weigher: We,
+        lives: Li,
+        loader: F,
+    ) -> Result<Self, Refusal>
+    where
+        A: Clone,
+        F: Drop,
+        Li: Drop,
+        We: Clone + Drop,
+        ensures shards { IfOk result (λ made. IsShardCount options.shards
+            options.estimated_items_capacity made.shards) }
+        ensures lives { IfOk result (λ made. made.lives ≡ lives) }
+        ensures grace { IfOk result (λ made. made.grace ≡ 0) }
+        ensures retry { IfOk result (λ made. made.retry_after ≡ 0) }
+        ensures loader { IfOk result (λ made. made.loader ≡ loader) }
+        ensures refused { IfErr result (λ refusal. refusal ≡ Refusal.Memory) }
+    {
+        let cache = Cache::with_options(
+            alloc,
+            options,
+            ByValue { weigher },
+            DefaultHashBuilder::new(),
+            Fresh::new(),
+        )?;
+        Ok(ReadThrough::over(cache, lives, loader))
+    }
+
+    /// A loader with this cache, which is empty, and no grace.
+    fn over(
+        cache: Cache<K, Loaded<V>, ByValue<We>, DefaultHashBuilder, Fresh<S>, A>,
+        lives: Li,
+        loader: F,
+    ) -> Self
+        ensures shards { result.shards ≡ cache.shards }
+        ensures lives { result.lives ≡ lives }
+        ensures grace { result.grace ≡ 0 }
+        ensures retry { result.retry_after ≡ 0 }
+        ensures loader { result.loader ≡ loader }
+    {
+        ReadThrough {
             cache,
             lives,
             grace: 0,
+            retry_after: 0,
             loader,
             too_old: AtomicU64::new(0),
             not_hits: AtomicU64::new(0),
-        })
+        }
     }
 
     /// The same, where an old value may be answered for so long after its life as loads of its key
@@ -162,10 +218,24 @@ impl<K: Eq + Hash + Drop, V: Drop, F, S: Source<K, V>, A: Allocator, Li, We> Rea
     pub fn with_grace(mut self, grace: u64) -> Self
         ensures lives { result.lives ≡ self.lives }
         ensures grace { result.grace ≡ grace }
+        ensures retry { result.retry_after ≡ self.retry_after }
         ensures loader { result.loader ≡ self.loader }
         ensures shards { result.shards ≡ self.shards }
     {
         self.grace = grace;
+        self
+    }
+
+    /// The same, where a loader that was asked for an old value within the grace is not asked again
+    /// for so long; without this call, not again at the same moment.
+    pub fn with_retry_after(mut self, retry_after: u64) -> Self
+        ensures lives { result.lives ≡ self.lives }
+        ensures grace { result.grace ≡ self.grace }
+        ensures retry { result.retry_after ≡ retry_after }
+        ensures loader { result.loader ≡ self.loader }
+        ensures shards { result.shards ≡ self.shards }
+    {
+        self.retry_after = retry_after;
         self
     }
 

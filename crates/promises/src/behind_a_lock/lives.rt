@@ -106,6 +106,7 @@ pub fn refresh_or_keep<R: Wait + Clock, F: Fn(&u64, u64) -> Result<Lasting<Addre
     match addresses.try_get_or_refresh(rt, &name, now, refresh_after) {
         Ok(Ok(Given::Fresh(answer))) => Some(answer),
         Ok(Ok(Given::Stale { value, .. })) => Some(value),
+        Ok(Ok(Given::Unasked(value))) => Some(value),
         Ok(Err(_)) => None,
         Err(_) => None,
     }

@@ -3,10 +3,13 @@ ghost use Rattle.std.specs.Prelude.{◌≡◌, IfOk, IfErr, IsOk};
 ghost use Rattle.quick_cache_model.specs.CacheState.{empty_state, item_count};
 ghost use Rattle.quick_cache_model.specs.Sizes.{hot_target_of, ghost_limit_of, default_hot_share, default_ghost_share};
 ghost use Rattle.quick_cache_model.specs.Touches.{counted_up};
+ghost use Rattle.quick_cache_shard.specs.Shard.{made_with};
+ghost use Rattle.quick_cache_unsync.specs.Saving.{empty_by};
 
 use crate::by_value::ByValue;
 use crate::lasting::{Lasting, Stats};
 use quick_cache_model::{DefaultHashBuilder, Refusal, UnitWeighter};
+use quick_cache_options::options::Options;
 use quick_cache_unsync::{Cache, DefaultLifecycle, Token};
 use std::alloc::{Allocator, Global};
 use std::hash::{BuildHasher, Hash};
@@ -115,6 +118,40 @@ impl<K: Eq + Hash, V, We, B: BuildHasher, L, A: Allocator> Expiring<K, V, We, B,
     {
         let weigher = ByValue { weigher };
         let cache = Cache::with(alloc, items, weight, weigher, builder, lifecycle)?;
+        Ok(Expiring {
+            cache,
+            expired: 0,
+            refused: 0,
+            from: None,
+        })
+    }
+
+    /// An empty cache with these options, of which the shards don't matter. It allocates nothing.
+    ///
+    /// # Errors
+    ///
+    /// `Memory` where the allocator could not be cloned.
+    pub fn with_options(
+        alloc: A,
+        options: Options,
+        weigher: We,
+        builder: B,
+        lifecycle: L,
+    ) -> Result<Self, Refusal>
+    where
+        A: Clone,
+        We: Drop,
+        B: Drop,
+        L: Drop,
+        ensures makes { IfOk result (λ made. made.cache ≡ made_with (empty_by options)
+            (record { weigher = weigher }) builder lifecycle) }
+        ensures none { IfOk result (λ made. (made.expired ≡ 0) × (made.refused ≡ 0)
+            × (made.from ≡ 0)) }
+        ensures succeeds { A.is_infallible alloc → IsOk result }
+        ensures refused { IfErr result (λ refusal. refusal ≡ Refusal.Memory) }
+    {
+        let weigher = ByValue { weigher };
+        let cache = Cache::with_options(alloc, options, weigher, builder, lifecycle)?;
         Ok(Expiring {
             cache,
             expired: 0,

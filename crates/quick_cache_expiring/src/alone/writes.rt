@@ -4,7 +4,10 @@ ghost use Rattle.quick_cache_model.specs.Hashing.{hash_of};
 ghost use Rattle.quick_cache_model.specs.Removal.{Removes};
 ghost use Rattle.quick_cache_shard.specs.Alone.{IsDoneAlone};
 ghost use Rattle.quick_cache_shard.specs.Shard.{KeepsTerms, KeepsWork, UpToOrder, WorksAsWrite};
-ghost use Rattle.quick_cache_shard.specs.Steps.{InsertsBy, rules_in};
+ghost use Rattle.quick_cache_shard.specs.Inserts.{with_pair};
+ghost use Rattle.quick_cache_shard.specs.SetsCapacity.{Rescales};
+ghost use Rattle.quick_cache_shard.specs.ShardDrain.{emptied};
+ghost use Rattle.quick_cache_shard.specs.Steps.{InsertsBy, SetsCapacityBy, rules_in};
 ghost use Rattle.quick_cache_unsync.specs.Touches.{no_touches};
 ghost use Rattle.quick_cache_expiring.specs.Lives.{end_of, lives};
 ghost use Rattle.quick_cache_expiring.specs.Entries.{KeepsRest, Touches};
@@ -56,6 +59,43 @@ impl<
         self.cache.insert(key, Lasting { value, until })
     }
 
+    /// Inserts a pair as `insert` does, for who does not want a refused pair back: it is dropped.
+    ///
+    /// # Errors
+    ///
+    /// Why, as `insert` has it.
+    pub fn put(&mut self, key: K, value: V, now: u64, life: u64) -> Result<(), Refusal>
+        // It is the insert of the pair, with the same room and work.
+        ensures puts { IsDoneAlone L.RequestState.is_default
+            (InsertsBy ⟦<Cache<K, Lasting<V>, ByValue<We>, B, L, A> as Ruled>⟧.goes no_touches
+            self.old.cache K.eq key (lasting_of value (end_of now life))
+            (with_pair key (lasting_of value (end_of now life)) result) self.new.cache) }
+        ensures room { self.old.cache.room ≤ self.new.cache.room + 1 }
+        ensures asks { IfErr result (λ refusal. refusal ≡ Refusal.Memory
+            → self.old.cache.room ≡ 0) }
+        ensures work { WorksAsWrite self.old.cache self.new.cache }
+        ensures same { KeepsTerms self.old.cache self.new.cache }
+        ensures rest { KeepsRest self.old self.new }
+    {
+        let until = end_of(now, life);
+        self.cache.put(key, Lasting { value, until })
+    }
+
+    /// Sets the weight that the cache may hold, and hands what leaves to the lifecycle, with a
+    /// request state of its own. What is over counts like any other. It takes no memory.
+    pub fn set_capacity(&mut self, capacity: u64)
+        ensures sets { IsDoneAlone L.RequestState.is_default
+            (SetsCapacityBy ⟦<Cache<K, Lasting<V>, ByValue<We>, B, L, A> as Ruled>⟧.goes no_touches
+            self.old.cache capacity self.new.cache) }
+        ensures sizes { Rescales capacity self.old.cache.state self.new.cache.state }
+        ensures room { self.old.cache.room ≤ self.new.cache.room }
+        ensures work { WorksAsWrite self.old.cache self.new.cache }
+        ensures same { KeepsTerms self.old.cache self.new.cache }
+        ensures rest { KeepsRest self.old self.new }
+    {
+        self.cache.set_capacity(capacity);
+    }
+
     /// Gives the entry under the query's key a new end, where it serves at this moment: it is then
     /// as if it had been stored now, for so long. It is a look, as `get` is: the entry is marked
     /// and read, and one that is over is taken out. It tells whether an entry was renewed.
@@ -102,5 +142,14 @@ impl<K: Eq + Hash + Drop, V: Drop, We, B: BuildHasher, L, A: Allocator> Expiring
         ensures rest { KeepsRest self.old self.new }
     {
         self.cache.remove(query)
+    }
+
+    /// Drops all entries, and forgets those that left. The counts, the sizes and the memory stay. No
+    /// hook is called.
+    pub fn clear(&mut self)
+        ensures clears { self.new.cache ≡ emptied self.old.cache }
+        ensures rest { KeepsRest self.old self.new }
+    {
+        self.cache.clear();
     }
 }

@@ -1,5 +1,7 @@
 //! What serves at which moment, and what is renewed, purged and loaded.
-use quick_cache_expiring::{Expiring, Stats};
+use quick_cache_expiring::{
+    DefaultHashBuilder, DefaultLifecycle, Expiring, OptionsBuilder, Stats, UnitWeighter,
+};
 use std::convert::Infallible;
 use test_tools::{expect_eq, expect_ok};
 
@@ -123,4 +125,26 @@ fn a_load_of_what_is_over_counts_as_a_get_of_it(rt: HostRuntime) {
         expect_eq!(rt; [stats.hits, stats.misses, stats.expired], counts);
     }
     expect_eq!(rt; (entries.get(&1, 30).copied(), entries.stats().misses), (None, 3));
+}
+
+#[test]
+fn a_capacity_counts_what_is_over(rt: HostRuntime) {
+    let options = expect_ok!(rt; OptionsBuilder::new()
+        .estimated_items_capacity(4)
+        .weight_capacity(4)
+        .build());
+    let mut entries: Expiring<u64, u64> = expect_ok!(rt; Expiring::with_options(
+        rt.alloc(),
+        options,
+        UnitWeighter,
+        DefaultHashBuilder::new(),
+        DefaultLifecycle::new(),
+    ));
+    for key in 0..4 {
+        expect_eq!(rt; entries.put(key, key, 0, 1), Ok(()));
+    }
+    entries.set_capacity(2);
+    expect_eq!(rt; entries.len(), 2);
+    entries.clear();
+    expect_eq!(rt; (entries.len(), entries.cache().capacity()), (0, 2));
 }

@@ -1,6 +1,8 @@
 //! The rows of the cache that threads share.
 use crate::expiring::rows::{LIVES, PURGED_IN_PARTS};
-use quick_cache_expiring_sync::{SharedExpiring, Stats};
+use quick_cache_expiring_sync::{
+    DefaultHashBuilder, DefaultLifecycle, OptionsBuilder, SharedExpiring, Stats, UnitWeighter,
+};
 use std::convert::Infallible;
 use test_tools::{expect_eq, expect_ok};
 
@@ -108,4 +110,26 @@ fn what_is_over_gives_its_place_to_a_load(rt: HostRuntime) {
         .remove(&rt, &3)
         .map(|pair| (pair.0, pair.1.value, pair.1.until));
     expect_eq!(rt; removed, Some((3, 9, 15)));
+}
+
+#[test]
+fn a_shared_capacity_counts_what_is_over(rt: HostRuntime) {
+    let options = expect_ok!(rt; OptionsBuilder::new()
+        .estimated_items_capacity(4)
+        .weight_capacity(4)
+        .build());
+    let entries: SharedExpiring<u64, u64> = expect_ok!(rt; SharedExpiring::with_options(
+        rt.alloc(),
+        options,
+        UnitWeighter,
+        DefaultHashBuilder::new(),
+        DefaultLifecycle::new(),
+    ));
+    for key in 0..4 {
+        expect_eq!(rt; entries.put(&rt, key, key, 0, 1), Ok(()));
+    }
+    entries.set_capacity(&rt, 2);
+    expect_eq!(rt; entries.len(&rt), 2);
+    entries.clear(&rt);
+    expect_eq!(rt; (entries.len(&rt), entries.cache().capacity(&rt)), (0, 2));
 }

@@ -1,9 +1,11 @@
 //! Answers with lives of their own, old answers that are asked for anew, and those that are answered
 //! while a loader fails.
 use crate::loader::hundreds::hundreds;
-use read_through::{ByAnswer, Given, Lasting, ReadThrough};
+use read_through::{ByAnswer, Given, Lasting, OptionsBuilder, ReadThrough, UnitWeighter};
 use std::alloc::Global;
 use std::sync::atomic::{AtomicU64, Ordering};
+use std::sync::{Barrier, Wait};
+use std::thread::join;
 use test_tools::{expect_eq, expect_ok};
 
 /// The life of each answer, and gets: a moment, and the one at which the answer was loaded.
@@ -64,11 +66,15 @@ fn an_old_answer_is_asked_for_anew(rt: HostRuntime) {
     expect_eq!(rt; (loaded.hits(&rt), loaded.misses(&rt)), (6, 2));
 }
 
+/// What stands for the error where the loader was not asked.
+const UNASKED: u64 = u64::MAX;
+
 /// The value of an answer and its error, each 0 for none.
 fn given(answer: Result<Given<u64, u64>, u64>) -> (u64, u64) {
     match answer {
         Ok(Given::Fresh(value)) => (value, 0),
         Ok(Given::Stale { value, error }) => (value, error),
+        Ok(Given::Unasked(value)) => (value, UNASKED),
         Err(error) => (0, error),
     }
 }
@@ -103,4 +109,77 @@ fn while_a_loader_fails_an_old_answer_is_given(rt: HostRuntime) {
         let got = loaded.try_get_or_refresh(&rt, &1, now, refresh_after);
         expect_eq!(rt; (now, got.map(given)), (now, Ok((value, error))));
     }
+}
+
+#[test]
+fn a_loader_that_fails_is_asked_again_after_a_pause(rt: HostRuntime) {
+    let calls = AtomicU64::new(0);
+    let options = expect_ok!(rt; OptionsBuilder::new()
+        .estimated_items_capacity(8)
+        .weight_capacity(8)
+        .build());
+    let loaded: ReadThrough<u64, u64, _> = expect_ok!(rt; ReadThrough::with_options(
+        rt.alloc(),
+        options,
+        UnitWeighter,
+        10,
+        |key: &u64, now: u64| -> Result<u64, u64> {
+            calls.fetch_add(1, Ordering::SeqCst);
+            if now >= 10 && now < 28 {
+                Err(now)
+            } else {
+                Ok(hundreds(*key, now))
+            }
+        },
+    ))
+    .with_grace(20)
+    .with_retry_after(5);
+    // A moment, the value of the answer and the error, and the loads so far.
+    let rows = [
+        (5, 105, 0, 1),
+        (16, 105, 16, 2),
+        (16, 105, UNASKED, 2),
+        // A clock that goes back.
+        (15, 105, UNASKED, 2),
+        (21, 105, UNASKED, 2),
+        (22, 105, 22, 3),
+        (27, 105, UNASKED, 3),
+        (28, 128, 0, 4),
+        (37, 128, 0, 4),
+    ];
+    for (now, value, error, count) in rows {
+        let got = loaded.try_get_or_refresh(&rt, &1, now, u64::MAX).map(given);
+        expect_eq!(rt; (now, got, calls.load(Ordering::SeqCst)), (now, Ok((value, error)), count));
+    }
+    // A get that takes no old answer asks at once.
+    expect_eq!(rt; [loaded.try_get(&rt, &2, 15), loaded.try_get(&rt, &2, 15)], [Ok(Err(15)); 2]);
+}
+
+#[test]
+fn while_one_asks_an_old_answer_is_given_to_others(rt: HostRuntime) {
+    let (rt, both) = (&rt, &Barrier::new(2));
+    let loaded: ReadThrough<u64, u64, _> = expect_ok!(rt; ReadThrough::new(
+        rt.alloc(),
+        8,
+        10,
+        |key: &u64, now: u64| -> Result<u64, u64> {
+            if now >= 20 {
+                both.wait(rt);
+                both.wait(rt);
+                return Err(now);
+            }
+            Ok(hundreds(*key, now))
+        },
+    ));
+    let loaded = &loaded.with_grace(20).with_retry_after(5);
+    expect_eq!(rt; loaded.try_get(rt, &1, 5), Ok(Ok(105)));
+    let asks = || loaded.try_get_or_refresh(rt, &1, 20, 0).map(given);
+    let others = || {
+        both.wait(rt);
+        let got = [20, 21, 25].map(|now| loaded.try_get_or_refresh(rt, &1, now, 0).map(given));
+        both.wait(rt);
+        got
+    };
+    let told = join(rt, asks, others);
+    expect_eq!(rt; told, (Ok((105, 20)), [Ok((105, UNASKED)); 3]));
 }

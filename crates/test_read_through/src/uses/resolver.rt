@@ -57,6 +57,7 @@ pub fn tell<R: Wait + Clock>(
         let line = match answers.try_get_or_refresh(rt, name, *second, 200)? {
             Ok(Given::Fresh(answer)) => (answer.value, false),
             Ok(Given::Stale { value, .. }) => (value.value, true),
+            Ok(Given::Unasked(value)) => (value.value, true),
             Err(Away) => (None, true),
         };
         let _ = told.push(line);

@@ -8,7 +8,7 @@ returns g c = record {
   claims = elim c.match-entry.branch [
     | in-Retained w ↦
         let told = w.in-Retained.ensures.told in
-        rw w.result-is (Claims-told _ _ (g.K.PartialEq.eq c.args.key.now) _ c.args.refresh_after
+        rw w.result-is (Claims-told _ _ (g.K.PartialEq.eq c.args.key.now) _ c.args.pace
         c.args.now w.in-Retained.claimed told told.called.called)
     | in_default w ↦ rw w.result-is tt
   ];

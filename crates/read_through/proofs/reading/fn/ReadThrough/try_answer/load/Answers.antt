@@ -1,5 +1,5 @@
 use Rattle.std.proofs.Common.{refl}
-use Rattle.read_through.proofs.reading.fn.ReadThrough.try_get_or_refresh.load.Goals as goal
+use Rattle.read_through.proofs.reading.fn.ReadThrough.try_answer.load.Goals as goal
 
 -- the closure calls the loader at its key and its moment
 pub returns : goal.returns
