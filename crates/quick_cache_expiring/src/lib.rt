@@ -15,4 +15,4 @@ pub use quick_cache_model::{
     Bytes, BytesIn, DefaultHashBuilder, Refusal, Text, TextIn, UnitWeighter, Weighter,
 };
 pub use quick_cache_options::options::{Error, Options, OptionsBuilder};
-pub use quick_cache_unsync::DefaultLifecycle;
+pub use quick_cache_unsync::{DefaultLifecycle, LoadError};

@@ -2,10 +2,12 @@
 ghost use Rattle.std.specs.Prelude.{◌≡◌, IfOk, IsOk};
 ghost use Rattle.std.specs.Int.{IsPowerOfTwo};
 
+use quick_cache_expiring::Expiring;
 use quick_cache_listeners::ByLength;
 use quick_cache_maker::{MakeError, Maker};
 use quick_cache_sync::Cache as SharedCache;
 use quick_cache_unsync::Cache;
+use read_through::ReadThrough;
 use std::alloc::Global;
 
 /// A cache of texts that is given so many bytes is made, has that capacity, and begins empty.
@@ -30,4 +32,24 @@ pub fn make_for_threads(alloc: Global, shards: usize) -> Result<SharedCache<u64,
         .weight(1000)
         .shards(shards)
         .make_shared(alloc)
+}
+
+/// A cache whose entries end is made, has the capacity that was named, and begins empty.
+pub fn make_ending(alloc: Global, weight: u64) -> Result<Expiring<u64, u64>, MakeError>
+    ensures capacity { IfOk result (λ made. made.cache.state.capacity ≡ weight) }
+    ensures made { IsOk result }
+    ensures none { IfOk result (λ made. made.expired ≡ 0) }
+{
+    Maker::new().items(100).weight(weight).make_expiring(alloc)
+}
+
+/// A loader's values live for as long as was named, and none is answered for longer.
+pub fn make_loader<F: Drop>(alloc: Global, loader: F) -> Result<ReadThrough<u64, u64, F>, MakeError>
+    ensures lives { IfOk result (λ made. made.lives ≡ 60) }
+    ensures grace { IfOk result (λ made. made.grace ≡ 0) }
+{
+    Maker::new()
+        .items(100)
+        .weight(100)
+        .make_read_through(alloc, 60, loader)
 }

@@ -1,6 +1,6 @@
 //! What serves at which moment, and what is renewed, purged and loaded.
 use quick_cache_expiring::{
-    DefaultHashBuilder, DefaultLifecycle, Expiring, OptionsBuilder, Stats, UnitWeighter,
+    DefaultHashBuilder, DefaultLifecycle, Expiring, LoadError, OptionsBuilder, Stats, UnitWeighter,
 };
 use std::convert::Infallible;
 use test_tools::{expect_eq, expect_ok};
@@ -147,4 +147,27 @@ fn a_capacity_counts_what_is_over(rt: HostRuntime) {
     expect_eq!(rt; entries.len(), 2);
     entries.clear();
     expect_eq!(rt; (entries.len(), entries.cache().capacity()), (0, 2));
+}
+
+#[test]
+fn a_load_gives_its_value(rt: HostRuntime) {
+    let mut entries: Expiring<u64, u64> = expect_ok!(rt; Expiring::new(rt.alloc(), 8));
+    // A moment, what the loader gives for five moments, and what is answered.
+    let rows = [
+        (0, Ok(100), Ok(100)),
+        (4, Ok(200), Ok(100)),
+        (5, Ok(300), Ok(300)),
+        (10, Err(7), Err(LoadError::Failed(7))),
+        (10, Ok(400), Ok(400)),
+    ];
+    for (now, given, answer) in rows {
+        let got: Result<u64, LoadError<u8>> = entries.get_or_load(&1, now, 5, || given);
+        expect_eq!(rt; (now, got), (now, answer));
+    }
+    let stats = Stats {
+        hits: 1,
+        misses: 4,
+        expired: 2,
+    };
+    expect_eq!(rt; entries.stats(), stats);
 }

@@ -16,7 +16,7 @@ returns g c =
       from = number_or_zero c.self.inside.from;
     } in
     record {
-      loads = rw (← c.end_of-until.ensures, c.refuses.ensures) (record {
+      loads = rw (← c.end_of-until.ensures, c.refuses.ensures, c.load_refused.ensures) (record {
         over = c.expires-over.result;
         mid = mid;
         expires = expires;
