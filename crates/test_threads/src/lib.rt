@@ -14,6 +14,7 @@ mod asked;
 mod beside;
 #[cfg(test)]
 mod calls;
+pub mod doubles;
 #[cfg(test)]
 mod hottest;
 #[cfg(test)]
