@@ -9,6 +9,7 @@ pub mod locked;
 pub mod many;
 pub mod nobody;
 pub mod saved;
+pub mod seats;
 pub mod shards;
 pub mod shared;
 pub mod walks;
