@@ -1,5 +1,5 @@
 //! What those rely on who load a key in the shared cache, or act on its entry.
-ghost use Rattle.std.specs.Prelude.{◌≡◌, IfErr, IfOk, OnErr, OnOk, true, false, vec_len};
+ghost use Rattle.std.specs.Prelude.{◌≡◌, IfErr, IfOk, OnErr, OnOk, is_some, true, false, vec_len};
 ghost use Rattle.quick_cache_model.specs.Hashing.{StandsForGiven};
 ghost use Rattle.quick_cache_loading.specs.Core.{waits};
 ghost use Rattle.quick_cache_loading.specs.Fitting.{ClonesFit};
@@ -8,7 +8,8 @@ ghost use Rattle.quick_cache_guard.specs.Fills.{FilledAlone, FilledBy};
 use quick_cache_base::protocol::{Answer, Core, Event, run};
 use quick_cache_guard::entries::{EntryShard, entry};
 use quick_cache_guard::{EntryResult, FillError, LoadingShard, PlaceholderGuard, Turns};
-use quick_cache_loading::waiting::{Ended, Place, State, Unroused};
+use quick_cache_loading::sharing::SharedPlaceholder;
+use quick_cache_loading::waiting::{Ended, Place, Share, State, Unroused};
 use quick_cache_model::{EntryAction, Lifecycle, Refusal, ToKey};
 use std::alloc::Global;
 use std::hash::Hash;
@@ -62,6 +63,32 @@ pub fn fill_and_tell<
             false
         }
     }
+}
+
+/// The guard that the share of a placeholder makes is that of its key: by it the value is filled in
+/// under this one.
+pub fn start_and_fill<
+    K: Eq + Hash + Drop,
+    V: Clone,
+    L: Lifecycle<K, V>,
+    S: LoadingShard<K, V, L, Global>,
+    R: Wait,
+>(
+    rt: &R,
+    shard: &RwLock<S>,
+    placeholder: SharedPlaceholder<K, V, L, Global>,
+    key: K,
+    share: Share,
+    value: V,
+) -> Result<(), V>
+    requires owned { is_some placeholder.placeholder ≡ true }
+    requires share { share ≡ placeholder.ticket }
+    requires fits { L.fits key value }
+    requires clones { ClonesFit L.fits V.is_clone }
+    ensures told { OnOk result (FilledAlone L.RequestState.is_default S.fills key value) }
+    ensures back { IfErr result (λ back. back ≡ value) }
+{
+    fill_or_take_back(PlaceholderGuard::start_loading(rt, shard, placeholder, key, share), value)
 }
 
 /// An entry call whose callback keeps what it sees removes nothing and replaces nothing, and with no
