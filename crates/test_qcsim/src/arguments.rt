@@ -4,6 +4,7 @@ use qcsim_parts::arguments::{Form, read_arguments};
 use qcsim_parts::line::Format;
 use std::alloc::Global;
 use std::test::Fail;
+use test_tools::expect_eq;
 
 /// What a row of arguments asks for, or the status that they end with.
 fn read(alloc: Global, row: &[&str]) -> Result<Result<(Format, bool, Form, u64), i32>, Fail> {
@@ -78,7 +79,7 @@ fn arguments_are_understood_or_end_with_a_status(rt: HostRuntime) -> Result<(), 
     ];
     for (at, (words, wanted)) in rows.into_iter().enumerate() {
         let read = read(rt.alloc(), words)?;
-        assert!(rt; read == wanted, "row {at}");
+        expect_eq!(rt; (at, read == wanted), (at, true));
     }
     Ok(())
 }

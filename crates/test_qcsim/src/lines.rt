@@ -5,7 +5,7 @@ use qcsim_parts::trace::{BadTrace, Reading, Trace, read_trace};
 use std::alloc::Global;
 use std::io::{self, BufReader, ErrorKind, Read};
 use std::test::Fail;
-use test_tools::expect;
+use test_tools::{expect, expect_eq};
 
 const CSV: Format = Format::Csv {
     key: 2,
@@ -76,7 +76,7 @@ fn a_line_is_read_by_its_format_or_told_why_not(rt: HostRuntime) -> Result<(), F
             Ok(asked) => Ok((asked.first, asked.count, asked.weight)),
             Err(flaw) => Err(flaw),
         };
-        assert!(rt; read == wanted, "row {at}");
+        expect_eq!(rt; (at, read == wanted), (at, true));
     }
     Ok(())
 }
@@ -103,10 +103,8 @@ fn lines_of_the_same_text_are_the_same_key(rt: HostRuntime) -> Result<(), Fail> 
     ];
     for (at, (format, one, other, same)) in rows.into_iter().enumerate() {
         let one = key_of(format, one);
-        assert!(rt;
-            one.is_some() && (one == key_of(format, other)) == same,
-            "row {at}"
-        );
+        let is_same = one == key_of(format, other);
+        expect_eq!(rt; (at, one.is_some(), is_same), (at, true, same));
     }
     Ok(())
 }
@@ -167,7 +165,7 @@ fn a_bad_line_is_shown_or_passed_over(rt: HostRuntime) -> Result<(), Fail> {
             skips_bad,
         };
         let read = outcome(rt.alloc(), &rt, reading, trace)?;
-        assert!(rt; read.as_str() == wanted, "row {at}: {read}");
+        expect_eq!(rt; (at, read.as_str()), (at, wanted));
     }
     Ok(())
 }

@@ -8,7 +8,7 @@ use qcsim_parts::{
 };
 use std::alloc::{AllocError, Global};
 use std::test::Fail;
-use test_tools::expect;
+use test_tools::{expect, expect_eq};
 
 /// The hits of all policies: LRU, FIFO, CLOCK, S3-FIFO, W-TinyLFU, ARC and the best possible.
 fn all_hits(alloc: Global, trace: &Trace, capacity: u64) -> Result<[u64; 7], AllocError> {
@@ -72,7 +72,7 @@ fn textbooks_and_hands_agree(rt: HostRuntime) -> Result<(), Fail> {
     for (at, (keys, capacity, wanted)) in rows.into_iter().enumerate() {
         let trace = trace_of(rt.alloc(), keys, false)?;
         let found = all_hits(rt.alloc(), &trace, capacity)?;
-        assert!(rt; found == wanted, "row {at}: {found:?}");
+        expect_eq!(rt; (at, found), (at, wanted));
     }
     Ok(())
 }
@@ -113,7 +113,7 @@ fn models_of_the_policies_agree(rt: HostRuntime) -> Result<(), Fail> {
     for (weighted, capacity, wanted) in rows {
         let trace = trace_of(rt.alloc(), &keys, weighted)?;
         let found = all_hits(rt.alloc(), &trace, capacity)?;
-        assert!(rt; found == wanted, "{weighted} {capacity}: {found:?}");
+        expect_eq!(rt; (weighted, capacity, found), (weighted, capacity, wanted));
     }
     Ok(())
 }
