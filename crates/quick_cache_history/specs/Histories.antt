@@ -1,7 +1,10 @@
 -- Histories of a cache in shards.
-use Rattle.std.specs.Prelude.{ℕ, ◌==◌, Bool, false, if◌then◌else◌, List, [], ◌∷◌, filter}
+use Rattle.std.specs.Prelude.{ℕ, ◌==◌, Bool, false, if◌then◌else◌, List, [], ◌∷◌, filter, Result, Ok, Err}
+use Rattle.std.specs.declared.alloc.Global.{Global}
 use Rattle.quick_cache_model.specs.CacheState.{CacheState, empty_state}
 use Rattle.quick_cache_model.specs.Sizes.{hot_target_of, ghost_limit_of}
+use Rattle.quick_cache_model.specs.declared.calls.call.Call.{Call}
+use Rattle.quick_cache_model.specs.declared.calls.reply.Reply.{Reply}
 use Rattle.quick_cache_history.specs.declared.entry.Entry.{Entry}
 
 module _ {K V : Type 0} where
@@ -58,3 +61,13 @@ module _ {K V : Type 0} where
   abbrev pub next_of : Entry K V → ℕ
   next_of (Entry.Opened options sizes) = 0
   next_of (Entry.Made own next shard call reply) = next
+
+  -- the call of an entry
+  abbrev pub call_of : Entry K V → Call K V Bool
+  call_of (Entry.Opened options sizes) = Call.Counts
+  call_of (Entry.Made own next shard call reply) = call
+
+  -- the reply to a replace, by what it answers: a pair that was not admitted comes back
+  abbrev pub reply_of_replace : Result (Unit {0}) (K × V) → Reply K V Global
+  reply_of_replace (Ok done) = Reply.Done
+  reply_of_replace (Err back) = Reply.NotAdmitted back.0 back.1

@@ -1,20 +1,27 @@
 //! A shard behind its lock, with the history that it stands for.
-ghost use Rattle.std.specs.Prelude.{◌≡◌, ◌++◌, ◌∷◌, [], OnOk, OnErr, IfErr};
+ghost use Rattle.std.specs.Prelude.{◌≡◌, [], true, is_some, OnOk, OnErr, IfErr};
+ghost use Rattle.std.specs.Fn.{FnOnceReturnsAt};
 ghost use mathlib.Core.List.{IsPrefix};
 ghost use Rattle.quick_cache_model.specs.declared.calls.call.Call.{Call};
 ghost use Rattle.quick_cache_model.specs.declared.calls.reply.Reply.{Reply};
 ghost use Rattle.quick_cache_model.specs.declared.refusal.Refusal.{Refusal};
+ghost use Rattle.quick_cache_locked.specs.Asked.{MayBeAskedOfFittingUnder};
 ghost use Rattle.quick_cache_locked.specs.Counts.{empty_of};
 ghost use Rattle.quick_cache_locked.specs.Peeks.{Peeks};
 ghost use Rattle.quick_cache_history.specs.declared.entry.Entry.{Entry};
-ghost use Rattle.quick_cache_history.specs.Histories.{calls_of, first_in};
-ghost use Rattle.quick_cache_history.specs.KeptShards.{StandsAtEnd};
+ghost use Rattle.quick_cache_history.specs.Histories.{calls_of, first_in, is_in, is_of, next_of, reply_of_replace};
+ghost use Rattle.quick_cache_history.specs.KeptShards.{HasMade, LeftByAsking, StandsAtEnd};
 ghost use Rattle.quick_cache_history.specs.Seats.{Extends};
 
+use crate::entry::Entry;
 use crate::head::Head;
-use crate::law::Naming;
+use crate::law::{
+    Cleared, Inserted, Law, Naming, Nothing, Removed, RemovedIf, Replaced, Replacing,
+};
 use crate::past::Past;
 use crate::seat::Seat;
+use crate::turn::Turn;
+use logbook::Offer;
 use quick_cache_locked::LockedShard;
 use quick_cache_model::{Equivalent, Lifecycle, Refusal, Weighter};
 use quick_cache_options::Options;
@@ -114,6 +121,32 @@ impl<
     J: Naming,
     A: Allocator,
 > Kept<K, V, We, B, L, J, A> {
+    /// Adds a call that the shard made, which the seat has seen then.
+    fn add<R: Wait>(
+        past: &mut Past<K, V, J>,
+        shard: &LockedShard<K, V, We, B, L, A>,
+        rt: &R,
+        head: &Head<K, V, J>,
+        seat: &mut Seat<K, V, J>,
+        next: Turn<J>,
+        entry: Offer<Entry<K, V>, u64, Law<K, V>, Nothing>,
+    )
+        requires number { head.now.number ≡ past.old.shard }
+        requires own { is_of past.old.shard entry.ask ≡ true }
+        requires turn { is_in seat.old.turn entry.ask ≡ true }
+        requires next { next_of entry.ask ≡ next }
+        requires names { entry.names ≡ [] }
+        requires made { HasMade ⟦<LockedShard<K, V, We, B, L, A> as Ruled>⟧.goes
+            L.RequestState.is_default K.eq past.old.shard past.old.log entry.ask shard.now }
+        ensures extends { Extends seat.old entry.ask seat.new }
+        ensures turn { seat.new.turn ≡ next }
+        ensures knows { past.new ≡ record past.old { log = seat.new.seen } }
+        ensures stands { StandsAtEnd ⟦<LockedShard<K, V, We, B, L, A> as Ruled>⟧.goes
+            L.RequestState.is_default K.eq past.old.shard seat.new.seen shard.now }
+    {
+        past.add(rt, head, seat, next, entry);
+    }
+
     /// Inserts a pair whose value fits its key, with this request state.
     ///
     /// # Errors
@@ -140,10 +173,12 @@ impl<
     {
         self.past.meet(rt, head);
         let next = head.turn();
-        let entry = self.past.inserted(&seat.turn, &next, &key, &value);
+        let entry = self
+            .past
+            .made::<_, Inserted>(&seat.turn, &next, &(&key, &value));
         match self.shard.insert(key, value, state) {
             Ok(()) => {
-                self.past.add(rt, head, seat, next, entry);
+                Self::add(&mut self.past, &self.shard, rt, head, seat, next, entry);
                 Ok(())
             }
             Err(back) => Err(back),
@@ -166,9 +201,102 @@ impl<
         self.past.meet(rt, head);
         let pair = self.shard.remove(key);
         let next = head.turn();
-        let entry = self.past.removed(&seat.turn, &next, key, &pair);
-        self.past.add(rt, head, seat, next, entry);
+        let entry = self
+            .past
+            .made::<_, Removed>(&seat.turn, &next, &(key, &pair));
+        Self::add(&mut self.past, &self.shard, rt, head, seat, next, entry);
         pair
+    }
+
+    /// Replaces the item under the key by a pair whose value fits it, with this request state.
+    pub(crate) fn replace<R: Wait>(
+        &mut self,
+        rt: &R,
+        head: &Head<K, V, J>,
+        seat: &mut Seat<K, V, J>,
+        key: K,
+        value: V,
+        soft: bool,
+        state: &mut L::RequestState,
+    ) -> Result<(), (K, V)>
+        requires fits { L.fits key value }
+        requires fresh { L.RequestState.is_default state.old }
+        ensures extends { Extends seat.old (Entry.Made seat.old.turn seat.new.turn head.now.number
+            (Call.Replace key value soft) (reply_of_replace result)) seat.new }
+        ensures run { StandsAtEnd ⟦<LockedShard<K, V, We, B, L, A> as Ruled>⟧.goes
+            L.RequestState.is_default K.eq head.now.number seat.new.seen self.new.shard }
+        ensures fits { IfErr result (λ back. L.fits back.0 back.1) }
+    {
+        self.past.meet(rt, head);
+        let next = head.turn();
+        let asked = self
+            .past
+            .made::<_, Replacing>(&seat.turn, &next, &(&key, &value, soft));
+        let result = self.shard.replace(key, value, soft, state);
+        let entry = self
+            .past
+            .made::<_, Replaced>(&seat.turn, &next, &(&asked, &result));
+        Self::add(&mut self.past, &self.shard, rt, head, seat, next, entry);
+        result
+    }
+
+    /// Takes the item under the key out where its value is wanted.
+    pub(crate) fn remove_if<F: FnOnce(&V) -> bool, R: Wait>(
+        &mut self,
+        rt: &R,
+        head: &Head<K, V, J>,
+        seat: &mut Seat<K, V, J>,
+        key: &K,
+        wanted: F,
+    ) -> Option<(K, V)>
+        requires callable { MayBeAskedOfFittingUnder L.fits (K.eq key.now) F.FnOnce wanted }
+        ensures extends { Extends seat.old (Entry.Made seat.old.turn seat.new.turn head.now.number
+            (Call.RemoveIf key.now (is_some result)) (Reply.Pair result)) seat.new }
+        ensures run { StandsAtEnd ⟦<LockedShard<K, V, We, B, L, A> as Ruled>⟧.goes
+            L.RequestState.is_default K.eq head.now.number seat.new.seen self.new.shard }
+        ensures asks { LeftByAsking (K.eq key.now) (FnOnceReturnsAt F.FnOnce wanted) result
+            self.new.shard.state }
+    {
+        self.past.meet(rt, head);
+        let pair = self.shard.remove_if(key, wanted);
+        let next = head.turn();
+        let entry = self
+            .past
+            .made::<_, RemovedIf>(&seat.turn, &next, &(key, &pair));
+        Self::add(&mut self.past, &self.shard, rt, head, seat, next, entry);
+        pair
+    }
+
+    /// Drops all items, and forgets those that left.
+    pub(crate) fn clear<R: Wait>(&mut self, rt: &R, head: &Head<K, V, J>, seat: &mut Seat<K, V, J>)
+        ensures extends { Extends seat.old (Entry.Made seat.old.turn seat.new.turn head.now.number
+            Call.Clear Reply.Done) seat.new }
+        ensures run { StandsAtEnd ⟦<LockedShard<K, V, We, B, L, A> as Ruled>⟧.goes
+            L.RequestState.is_default K.eq head.now.number seat.new.seen self.new.shard }
+    {
+        self.past.meet(rt, head);
+        self.shard.clear();
+        let next = head.turn();
+        let entry = self.past.made::<_, Cleared>(&seat.turn, &next, &());
+        Self::add(&mut self.past, &self.shard, rt, head, seat, next, entry);
+    }
+
+    /// The shard, of which the seat has then seen all calls.
+    pub(crate) fn look<R: Wait>(
+        &self,
+        rt: &R,
+        head: &Head<K, V, J>,
+        seat: &mut Seat<K, V, J>,
+    ) -> &LockedShard<K, V, We, B, L, A>
+        ensures longer { IsPrefix seat.old.seen seat.new.seen }
+        ensures seat { seat.new ≡ record seat.old { seen = seat.new.seen } }
+        ensures run { StandsAtEnd ⟦<LockedShard<K, V, We, B, L, A> as Ruled>⟧.goes
+            L.RequestState.is_default K.eq head.now.number seat.new.seen result.now }
+        ensures its { result.now ≡ self.now.shard }
+    {
+        self.past.meet(rt, head);
+        self.past.show(rt, head, seat);
+        &self.shard
     }
 }
 
@@ -199,8 +327,7 @@ impl<
         ensures run { StandsAtEnd ⟦<LockedShard<K, V, We, B, L, A> as Ruled>⟧.goes
             L.RequestState.is_default K.eq head.now.number seat.new.seen self.now.shard }
     {
-        self.past.meet(rt, head);
-        self.past.show(rt, head, seat);
+        let _ = self.look(rt, head, seat);
         self.shard.get(query)
     }
 }

@@ -2,7 +2,7 @@
 
 use crate::entry::Entry;
 use crate::turn::Turn;
-use logbook::{Gain, Opening, Plain, Play, Rule};
+use logbook::{Gain, Offer, Opening, Plain, Play, Rule};
 use quick_cache_options::Options;
 use quick_cache_options::sizes::ShardSizes;
 use std::marker::{Brand, PhantomData};
@@ -90,39 +90,114 @@ impl<K, V> Play<Entry<K, V>, u64> for Add {
     ghost then = { AddsCall };
 }
 
-/// An insert that was made.
-pub(crate) struct Inserted;
-
-impl<'a, K, V, J: Naming> Plain<(&'a Turn<J>, &'a Turn<J>, u64, &'a K, &'a V), Entry<K, V>, u64>
-    for Inserted {
-    ghost use Rattle.std.specs.Prelude.{None};
+/// A call that was made and its reply, told by what its caller holds.
+pub(crate) trait Made<X, K, V> {
+    ghost use Rattle.std.specs.Prelude.{Bool};
+    ghost use Rattle.std.specs.declared.alloc.Global.{Global};
     ghost use Rattle.quick_cache_model.specs.declared.calls.call.Call.{Call};
     ghost use Rattle.quick_cache_model.specs.declared.calls.reply.Reply.{Reply};
+
+    ghost call: { X → Call K V Bool };
+
+    ghost reply: { X → Reply K V Global };
+}
+
+/// Such a call of a shard, in its turn.
+pub(crate) struct Told<M> {
+    of: PhantomData<M>,
+}
+
+impl<'a, X, K, V, J: Naming, M: Made<X, K, V>> Plain<
+    (&'a Turn<J>, &'a Turn<J>, u64, &'a X),
+    Entry<K, V>,
+    u64,
+> for Told<M> {
+    ghost use Rattle.std.specs.Prelude.{None};
     ghost use Rattle.quick_cache_history.specs.declared.entry.Entry.{Entry};
 
-    ghost ask = { λ about. Entry.Made about.0.now about.1.now about.2
-        (Call.Insert about.3.now about.4.now) Reply.Done };
+    ghost ask = { λ about. Entry.Made about.0.now about.1.now about.2 (M.call about.3.now)
+        (M.reply about.3.now) };
 
     ghost state = { λ about. None };
 }
 
-/// A removal that was made, and what it gave.
-pub(crate) struct Removed;
+/// An insert.
+pub(crate) struct Inserted;
 
-impl<'a, K, V, J: Naming> Plain<
-    (&'a Turn<J>, &'a Turn<J>, u64, &'a K, &'a Option<(K, V)>),
-    Entry<K, V>,
-    u64,
-> for Removed {
-    ghost use Rattle.std.specs.Prelude.{None};
+impl<'a, K, V> Made<(&'a K, &'a V), K, V> for Inserted {
     ghost use Rattle.quick_cache_model.specs.declared.calls.call.Call.{Call};
     ghost use Rattle.quick_cache_model.specs.declared.calls.reply.Reply.{Reply};
-    ghost use Rattle.quick_cache_history.specs.declared.entry.Entry.{Entry};
 
-    ghost ask = { λ about. Entry.Made about.0.now about.1.now about.2 (Call.Remove about.3.now)
-        (Reply.Pair about.4.now) };
+    ghost call = { λ about. Call.Insert about.0.now about.1.now };
 
-    ghost state = { λ about. None };
+    ghost reply = { λ about. Reply.Done };
+}
+
+/// A replace that is about to be made.
+pub(crate) struct Replacing;
+
+impl<'a, K, V> Made<(&'a K, &'a V, bool), K, V> for Replacing {
+    ghost use Rattle.quick_cache_model.specs.declared.calls.call.Call.{Call};
+    ghost use Rattle.quick_cache_model.specs.declared.calls.reply.Reply.{Reply};
+
+    ghost call = { λ about. Call.Replace about.0.now about.1.now about.2 };
+
+    ghost reply = { λ about. Reply.Done };
+}
+
+/// A replace, whose pair is gone: it is told by the entry that was made before.
+pub(crate) struct Replaced;
+
+impl<'a, K, V> Made<
+    (
+        &'a Offer<Entry<K, V>, u64, Law<K, V>, Nothing>,
+        &'a Result<(), (K, V)>,
+    ),
+    K,
+    V,
+> for Replaced {
+    ghost use Rattle.quick_cache_history.specs.Histories.{call_of, reply_of_replace};
+
+    ghost call = { λ about. call_of about.0.now.ask };
+
+    ghost reply = { λ about. reply_of_replace about.1.now };
+}
+
+/// A removal, and what it gave.
+pub(crate) struct Removed;
+
+impl<'a, K, V> Made<(&'a K, &'a Option<(K, V)>), K, V> for Removed {
+    ghost use Rattle.quick_cache_model.specs.declared.calls.call.Call.{Call};
+    ghost use Rattle.quick_cache_model.specs.declared.calls.reply.Reply.{Reply};
+
+    ghost call = { λ about. Call.Remove about.0.now };
+
+    ghost reply = { λ about. Reply.Pair about.1.now };
+}
+
+/// A removal by a predicate, which answered yes where it gave a pair.
+pub(crate) struct RemovedIf;
+
+impl<'a, K, V> Made<(&'a K, &'a Option<(K, V)>), K, V> for RemovedIf {
+    ghost use Rattle.std.specs.Prelude.{is_some};
+    ghost use Rattle.quick_cache_model.specs.declared.calls.call.Call.{Call};
+    ghost use Rattle.quick_cache_model.specs.declared.calls.reply.Reply.{Reply};
+
+    ghost call = { λ about. Call.RemoveIf about.0.now (is_some about.1.now) };
+
+    ghost reply = { λ about. Reply.Pair about.1.now };
+}
+
+/// All items of the shard were dropped.
+pub(crate) struct Cleared;
+
+impl<K, V> Made<(), K, V> for Cleared {
+    ghost use Rattle.quick_cache_model.specs.declared.calls.call.Call.{Call};
+    ghost use Rattle.quick_cache_model.specs.declared.calls.reply.Reply.{Reply};
+
+    ghost call = { λ about. Call.Clear };
+
+    ghost reply = { λ about. Reply.Done };
 }
 
 /// A step that takes a turn.

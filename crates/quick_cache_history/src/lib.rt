@@ -10,9 +10,10 @@
 //! A seat may go to another thread; `Recorded::tell` makes one that has seen as much, and `learn`
 //! joins what two have seen. So nobody is shown less than it has seen, and each sees its own writes.
 //!
-//! It has `insert`, `remove` and `get`. Not said: which of two calls came first in time, where their
-//! seats never met; that a seat's calls are all that its thread made, since each thread may make
-//! seats; and that a call returns.
+//! Writes are `insert`, `replace`, `remove`, `remove_if` and `clear`, which is a call of each shard in
+//! turn; looks are `get`, `peek`, `contains_key` and `len`. It has no calls that load. Not said: which
+//! of two calls came first in time, where their seats never met; that a seat's calls are all that its
+//! thread made, since each thread may make seats; and that a call returns.
 #![tactic(auto)]
 
 mod entry;

@@ -1,15 +1,13 @@
 //! What a shard behind its lock knows of the history.
 ghost use Rattle.std.specs.Prelude.{◌≡◌, ◌<◌, ◌++◌, ◌∷◌, [], true};
 ghost use mathlib.Core.List.{IsPrefix};
-ghost use Rattle.quick_cache_model.specs.declared.calls.call.Call.{Call};
-ghost use Rattle.quick_cache_model.specs.declared.calls.reply.Reply.{Reply};
 ghost use Rattle.quick_cache_history.specs.declared.entry.Entry.{Entry};
 ghost use Rattle.quick_cache_history.specs.Histories.{calls_of, first_in, is_in, is_of, next_of, shards_in};
 ghost use Rattle.quick_cache_history.specs.Seats.{Extends};
 
 use crate::entry::Entry;
 use crate::head::Head;
-use crate::law::{Inserted, Law, Naming, Nothing, Removed};
+use crate::law::{Law, Made, Naming, Nothing, Told};
 use crate::seat::Seat;
 use crate::turn::Turn;
 use logbook::{Offer, Seen};
@@ -56,39 +54,20 @@ impl<K, V, J: Naming> Past<K, V, J> {
         }
     }
 
-    /// An insert of this shard, as an entry.
-    pub(crate) fn inserted(
+    /// A call of this shard that was made, as an entry.
+    pub(crate) fn made<X, M: Made<X, K, V>>(
         &self,
         turn: &Turn<J>,
         next: &Turn<J>,
-        key: &K,
-        value: &V,
+        about: &X,
     ) -> Offer<Entry<K, V>, u64, Law<K, V>, Nothing>
-        ensures asks { result.ask ≡ Entry.Made turn.now next.now self.now.shard
-            (Call.Insert key.now value.now) Reply.Done }
+        ensures asks { result.ask ≡ Entry.Made turn.now next.now self.now.shard (M.call about.now)
+            (M.reply about.now) }
         ensures names { result.names ≡ [] }
     {
         self.seen
-            .plain::<Nothing, (&Turn<J>, &Turn<J>, u64, &K, &V), Inserted>(&(
-                turn, next, self.shard, key, value,
-            ))
-    }
-
-    /// A removal from this shard, as an entry.
-    pub(crate) fn removed(
-        &self,
-        turn: &Turn<J>,
-        next: &Turn<J>,
-        key: &K,
-        pair: &Option<(K, V)>,
-    ) -> Offer<Entry<K, V>, u64, Law<K, V>, Nothing>
-        ensures asks { result.ask ≡ Entry.Made turn.now next.now self.now.shard
-            (Call.Remove key.now) (Reply.Pair pair.now) }
-        ensures names { result.names ≡ [] }
-    {
-        self.seen
-            .plain::<Nothing, (&Turn<J>, &Turn<J>, u64, &K, &Option<(K, V)>), Removed>(&(
-                turn, next, self.shard, key, pair,
+            .plain::<Nothing, (&Turn<J>, &Turn<J>, u64, &X), Told<M>>(&(
+                turn, next, self.shard, about,
             ))
     }
 

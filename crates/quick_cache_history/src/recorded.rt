@@ -1,15 +1,17 @@
 //! The cache that threads share, with one history of its calls.
-ghost use Rattle.std.specs.Prelude.{◌≡◌, [], IfOk, IfErr, OnOk, OnErr};
+ghost use Rattle.std.specs.Prelude.{◌≡◌, ◌<◌, [], IfOk, IfErr, OnOk, OnErr};
 ghost use mathlib.Core.List.{IsPrefix};
-ghost use Rattle.quick_cache_model.specs.Hashing.{hash_of};
 ghost use Rattle.quick_cache_model.specs.declared.calls.call.Call.{Call};
 ghost use Rattle.quick_cache_model.specs.declared.calls.reply.Reply.{Reply};
 ghost use Rattle.quick_cache_locked.specs.Peeks.{Peeks};
 ghost use Rattle.quick_cache_shard.specs.Shard.{Shard};
-ghost use Rattle.quick_cache_sync.specs.Shards.{shard_of_hash};
 ghost use Rattle.quick_cache_history.specs.declared.entry.Entry.{Entry};
 ghost use Rattle.quick_cache_history.specs.Seats.{Extends};
 ghost use Rattle.quick_cache_history.specs.KeptShards.{AtEnd};
+ghost use Rattle.quick_cache_history.specs.Rows.{shard_of};
+
+mod looks;
+mod writes;
 
 use crate::head::Head;
 use crate::history::History;
@@ -172,14 +174,22 @@ impl<
 > Recorded<K, V, We, B, L, J, A> {
     /// The shard of the query's key, by the last bits of its hash, once it is rotated right by 32.
     fn place_of<Q: Equivalent<K>, R: Wait>(&self, rt: &R, query: &Q) -> &Place<K, V, We, B, L, J, A>
-        ensures number { result.now.head.number ≡ shard_of_hash self.now.shards
-            (hash_of B.BuildHasher B.Hasher.Hasher self.now.builder (Q.hash_input query.now)) }
+        ensures number { result.now.head.number ≡ shard_of B.BuildHasher B.Hasher.Hasher
+            self.now (Q.hash_input query.now) }
     {
         let hash = hash_of(&self.builder, query);
         let number = hash.rotate_right(32) & (self.places.len() as u64 - 1);
-        let place = &*self.places[number as usize];
+        self.place_at(rt, number as usize)
+    }
+
+    /// The shard of that number.
+    fn place_at<R: Wait>(&self, rt: &R, number: usize) -> &Place<K, V, We, B, L, J, A>
+        requires within { number < self.now.shards }
+        ensures number { result.now.head.number ≡ number }
+    {
+        let place = &*self.places[number];
         // No clause says which number stands at a place of the list.
-        if place.head.number == number {
+        if place.head.number == number as u64 {
             return place;
         }
         for _ in rt.forever() {}
@@ -219,13 +229,13 @@ impl<
     ) -> Result<(), (K, V, Refusal)>
         requires fits { L.fits key value }
         // The history goes on from what the seat had seen, and ends with this call of the key's shard.
-        ensures extends { OnOk result (Extends seat.old (Entry.Made seat.old.turn seat.new.turn (shard_of_hash self.now.shards
-            (hash_of B.BuildHasher B.Hasher.Hasher self.now.builder (K.hash_input key)))
-            (Call.Insert key value) Reply.Done) seat.new) }
+        ensures extends { OnOk result (Extends seat.old (Entry.Made seat.old.turn seat.new.turn (shard_of
+            B.BuildHasher B.Hasher.Hasher self.now (K.hash_input key)) (Call.Insert key value)
+            Reply.Done) seat.new) }
         // The shard's calls in it are a run of the definition from an empty shard.
         ensures run { OnOk result (AtEnd ⟦<Self as Ruled>⟧.goes L.RequestState.is_default K.eq
-            (shard_of_hash self.now.shards (hash_of B.BuildHasher B.Hasher.Hasher self.now.builder
-            (K.hash_input key))) seat.new.seen (λ shard. Unit {0})) }
+            (shard_of B.BuildHasher B.Hasher.Hasher self.now (K.hash_input key)) seat.new.seen
+            (λ shard. Unit {0})) }
         ensures back { IfErr result (λ back. (back.0 ≡ key) × (back.1 ≡ value)) }
         ensures refused { OnErr result (seat.new ≡ seat.old) }
     {
@@ -240,12 +250,12 @@ impl<
     /// Takes the item under the key out, or a ghost of its hash. No hook is called. It takes the write
     /// lock of the key's shard, and no memory.
     pub fn remove<R: Wait>(&self, rt: &R, seat: &mut Seat<K, V, J>, key: &K) -> Option<(K, V)>
-        ensures extends { Extends seat.old (Entry.Made seat.old.turn seat.new.turn (shard_of_hash self.now.shards
-            (hash_of B.BuildHasher B.Hasher.Hasher self.now.builder (K.hash_input key.now)))
-            (Call.Remove key.now) (Reply.Pair result)) seat.new }
+        ensures extends { Extends seat.old (Entry.Made seat.old.turn seat.new.turn (shard_of
+            B.BuildHasher B.Hasher.Hasher self.now (K.hash_input key.now)) (Call.Remove key.now)
+            (Reply.Pair result)) seat.new }
         ensures run { AtEnd ⟦<Self as Ruled>⟧.goes L.RequestState.is_default K.eq
-            (shard_of_hash self.now.shards (hash_of B.BuildHasher B.Hasher.Hasher self.now.builder
-            (K.hash_input key.now))) seat.new.seen (λ shard. Unit {0}) }
+            (shard_of B.BuildHasher B.Hasher.Hasher self.now (K.hash_input key.now)) seat.new.seen
+            (λ shard. Unit {0}) }
     {
         let place = self.place_of(rt, key);
         place.lock.write(rt).remove(rt, &place.head, seat, key)
@@ -277,8 +287,7 @@ impl<
         ensures seat { seat.new ≡ record seat.old { seen = seat.new.seen } }
         // At the end of what the seat has then seen, the key's shard shows this.
         ensures shows { AtEnd ⟦<Self as Ruled>⟧.goes L.RequestState.is_default K.eq
-            (shard_of_hash self.now.shards (hash_of B.BuildHasher B.Hasher.Hasher self.now.builder
-            (Q.hash_input query.now))) seat.new.seen
+            (shard_of B.BuildHasher B.Hasher.Hasher self.now (Q.hash_input query.now)) seat.new.seen
             (λ (shard : Shard K V We B L). Peeks (Q.equivalent query.now) V.is_clone shard.state
             result) }
     {

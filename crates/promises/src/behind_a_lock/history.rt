@@ -1,8 +1,9 @@
 //! What those rely on who make their calls in one history.
-ghost use Rattle.std.specs.Prelude.{◌≡◌, ◌+◌, length, IfSome};
+ghost use Rattle.std.specs.Prelude.{◌≡◌, ◌+◌, false, is_some, length, IfSome};
 ghost use mathlib.Core.List.{IsPrefix};
 ghost use Rattle.quick_cache_model.specs.declared.calls.call.Call.{Call};
 ghost use Rattle.quick_cache_model.specs.declared.calls.reply.Reply.{Reply};
+ghost use Rattle.quick_cache_history.specs.Histories.{reply_of_replace};
 ghost use Rattle.quick_cache_history.specs.Seats.{HasCall};
 
 use quick_cache_history::{Naming, Recorded, Seat};
@@ -64,4 +65,48 @@ pub fn two_writes<J: Naming + Send + Sync, R: Threads + Wait + Sync>(
     let mut both = one?;
     both.learn(&two?);
     Some(both)
+}
+
+/// Who replaces a value and looks then has its call in the history, and has made one call more.
+pub fn replace_and_look<J: Naming, R: Wait>(
+    rt: &R,
+    numbers: &Numbers<J>,
+    seat: &mut Seat<u64, u64, J>,
+    key: u64,
+    value: u64,
+) -> (Result<(), (u64, u64)>, bool)
+    ensures longer { IsPrefix seat.old.seen seat.new.seen }
+    ensures made { HasCall (Call.Replace key value false) (reply_of_replace result.0)
+        seat.new.seen }
+    ensures once { length seat.new.mine ≡ length seat.old.mine + 1 }
+{
+    let replaced = numbers.replace(rt, seat, key, value, false);
+    let there = numbers.contains_key(rt, seat, &key);
+    (replaced, there)
+}
+
+/// Who takes a small number out has its call in the history, with the pair that it got.
+pub fn take_small<J: Naming, R: Wait>(
+    rt: &R,
+    numbers: &Numbers<J>,
+    seat: &mut Seat<u64, u64, J>,
+    key: u64,
+) -> Option<(u64, u64)>
+    ensures made { HasCall (Call.RemoveIf key (is_some result)) (Reply.Pair result) seat.new.seen }
+    ensures once { length seat.new.mine ≡ length seat.old.mine + 1 }
+{
+    numbers.remove_if(rt, seat, &key, |value| *value < 10)
+}
+
+/// Who clears the cache and counts what is left makes a call of each shard, and no other.
+pub fn clear_and_count<J: Naming, R: Wait>(
+    rt: &R,
+    numbers: &Numbers<J>,
+    seat: &mut Seat<u64, u64, J>,
+) -> usize
+    ensures longer { IsPrefix seat.old.seen seat.new.seen }
+    ensures each { length seat.new.mine ≡ length seat.old.mine + numbers.now.shards }
+{
+    numbers.clear(rt, seat);
+    numbers.len(rt, seat)
 }

@@ -1,46 +1,15 @@
-use Rattle.std.proofs.Common.{◌∷◌, [], ◌++◌, ◌∙◌, ap}
-use Rattle.quick_cache_model.specs.declared.calls.call.Call.{Call}
-use Rattle.quick_cache_model.specs.declared.calls.reply.Reply.{Reply}
-use Rattle.quick_cache_shard.specs.Goes.{goes_by}
+use Rattle.std.proofs.Common.{ap}
 use Rattle.quick_cache_shard.specs.Shard.{terms_of}
-use Rattle.quick_cache_history.specs.declared.entry.Entry.{Entry}
-use Rattle.quick_cache_history.specs.Histories.{calls_of}
-use Rattle.quick_cache_history.proofs.KeptLemmas.{StandsAtEnd-push, removes}
+use Rattle.quick_cache_history.proofs.KeptLemmas.{removes}
 use Rattle.quick_cache_history.proofs.kept.Kept.remove.Goals as goal
 
--- the call is a step of the shard, and one more of its calls
-pub invariant_of-self : goal.invariant_of-self
-invariant_of-self g c =
-    let goes = goes_by g.K.Hash.hash_input g.We.Weighter g.B.BuildHasher g.B.Hasher.Hasher
-    g.L.Lifecycle in
-    let past = c.self.inside.past in
-    let seen = c.add.new.seat.seen in
-    let old = c.self.inside.shard in
-    let left = c.remove-pair.new.self in
-    let entry = Entry.Made c.seat.inside.turn c.turn-next.result past.shard
-    (Call.Remove c.args.key.now) (Reply.Pair c.remove-pair.result) in
-    rw c.add.ensures.knows
-    (StandsAtEnd-push goes g.L.RequestState.Default.is_default g.K.PartialEq.eq past.shard past.log seen
-    c.add.ensures.first old left (ap terms_of c.remove-pair.ensures.same) c.self.invariant entry
-    (c.add.ensures.one_more
-    ∙ ap (λ e. calls_of past.shard past.log ++ e ∷ []) c.removed-entry.ensures.asks)
-    (λ steady. removes _ g.K.PartialEq.eq _ g.L.RequestState.Default.is_default old.state left.state
-    c.seat.inside.turn c.turn-next.result past.shard c.args.key.now c.remove-pair.result c.remove-pair.ensures.removes))
-
-pub returns-clause-run : goal.returns-clause-run
-returns-clause-run g c =
-    let goes = goes_by g.K.Hash.hash_input g.We.Weighter g.B.BuildHasher g.B.Hasher.Hasher
-    g.L.Lifecycle in
-    let past = c.self.inside.past in
-    let seen = c.add.new.seat.seen in
-    let old = c.self.inside.shard in
-    let left = c.remove-pair.new.self in
-    let entry = Entry.Made c.seat.inside.turn c.turn-next.result past.shard
-    (Call.Remove c.args.key.now) (Reply.Pair c.remove-pair.result) in
-    rw c.meet.ensures.number
-    (StandsAtEnd-push goes g.L.RequestState.Default.is_default g.K.PartialEq.eq past.shard past.log seen
-    c.add.ensures.first old left (ap terms_of c.remove-pair.ensures.same) c.self.invariant entry
-    (c.add.ensures.one_more
-    ∙ ap (λ e. calls_of past.shard past.log ++ e ∷ []) c.removed-entry.ensures.asks)
-    (λ steady. removes _ g.K.PartialEq.eq _ g.L.RequestState.Default.is_default old.state left.state
-    c.seat.inside.turn c.turn-next.result past.shard c.args.key.now c.remove-pair.result c.remove-pair.ensures.removes))
+-- so is a removal
+pub add-requires-clause-made : goal.add-requires-clause-made
+add-requires-clause-made g c = rw c.made-entry.ensures.asks (record {
+  old = c.self.inside.shard;
+  same = ap terms_of c.remove-pair.ensures.same;
+  stood = c.self.invariant;
+  step = λ steady. removes _ g.K.PartialEq.eq _ g.L.RequestState.Default.is_default c.self.inside.shard.state
+      c.remove-pair.new.self.state c.seat.inside.turn c.turn-next.result c.self.inside.past.shard
+      c.args.key.now c.remove-pair.result c.remove-pair.ensures.removes;
+})

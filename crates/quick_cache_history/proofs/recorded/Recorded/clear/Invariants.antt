@@ -1,0 +1,10 @@
+use Rattle.quick_cache_shard.specs.Goes.{goes_by}
+use Rattle.quick_cache_history.specs.Rows.{Clears, OnEach}
+use Rattle.quick_cache_history.proofs.recorded.Recorded.clear.Given as goal
+
+-- the shards up to here were cleared
+abbrev pub invariant-loop-number : goal.invariant-loop-number
+invariant-loop-number g l = OnEach
+    (Clears (goes_by g.K.Hash.hash_input g.We.Weighter g.B.BuildHasher g.B.Hasher.Hasher
+    g.L.Lifecycle)
+    g.L.RequestState.Default.is_default g.K.PartialEq.eq) l.fn.seat l.number l.seat
