@@ -11,4 +11,5 @@ pub mod nobody;
 pub mod saved;
 pub mod shards;
 pub mod shared;
+pub mod tested;
 pub mod walks;
