@@ -6,13 +6,18 @@ use Rattle.std.proofs.lemmas.List.{append_assoc}
 use Rattle.std.proofs.lemmas.List.Sorted.{IsPermutation-sym}
 use denote.Ref.{Bor}
 use denote.Param.Members.{Once}
-use Rattle.quick_cache_model.specs.CacheState.{CacheState, Item, Place, InHot, InCold, InStill, SameButOrder, UpToOrder, items_at, with_items}
+use Rattle.quick_cache_model.specs.CacheState.{CacheState, Item, IsValid, Place, InHot, InCold, InStill, SameButOrder, UpToOrder, items_at, with_items}
+use Rattle.quick_cache_model.specs.Finding.{HasNoItem}
 use Rattle.quick_cache_model.specs.Hooks.{Rules}
 use Rattle.quick_cache_model.specs.Lookups.{LooksUp, Sees, after_hit, looked_up}
 use Rattle.quick_cache_model.specs.References.{WritesItem}
 use Rattle.quick_cache_model.specs.Removal.{weighed}
 use Rattle.quick_cache_model.proofs.EachElement.{all-middle}
-use Rattle.quick_cache_policy.specs.References.{IsValueUnder}
+use Rattle.quick_cache_policy.specs.References.{IsValueUnder, ReweighsUnder, with_value_under}
+use Rattle.quick_cache_policy.proofs.ReferenceLemmas.{keys_by-query}
+use Rattle.quick_cache_shard.specs.Shard.{KeepsWork, Shard}
+use Rattle.quick_cache_shard.specs.Steps.{Goes, rules_in}
+use Rattle.quick_cache_shard.proofs.WrittenLemmas.{written}
 use Rattle.quick_cache_shard.specs.Predicates.{MayBeAskedUnder}
 use Rattle.quick_cache_shard.specs.Shared.{PeeksIf}
 use Rattle.quick_cache_shard.specs.Tests.{LooksUpOrTakesOut, PassesTest}
@@ -21,6 +26,7 @@ use Rattle.quick_cache_locked.specs.Asked.{MayBeAskedOfFittingUnder}
 use Rattle.quick_cache_locked.specs.Changes.{LeavesFitting}
 use Rattle.quick_cache_locked.specs.Fitting.{FitsIn, AllFit, ClonesFit, FitsQuery}
 use Rattle.quick_cache_locked.specs.Peeks.{Miss}
+use Rattle.quick_cache_locked.specs.Touches.{any_touches}
 use Rattle.quick_cache_locked.proofs.FitLemmas.{AllFit-at, SameButOrder-fits, rewritten-fits}
 use Rattle.quick_cache_locked.proofs.FitLoads.{LooksUp-fits}
 use Rattle.quick_cache_locked.proofs.FitRemovals.{AllFit-stepped, RemovesAsked-fits, RemovesAsked-gives}
@@ -145,7 +151,7 @@ module _ {K V : Type 0} (fits : K → V → Type 0) (stands_for : K → Bool) (o
       })
 
   -- what is seen fits
-  seen-fits : (seen : Option V) → Sees stands_for old (λ item. item.value) seen
+  pub seen-fits : (seen : Option V) → Sees stands_for old (λ item. item.value) seen
       → IfSome seen (λ value. FitsQuery fits stands_for value)
   seen-fits _ (Sees.is_there place before item after there) = record {
     key = item.key;
@@ -190,3 +196,27 @@ module _ {K V : Type 0} (fits : K → V → Type 0) (stands_for : K → Bool) (o
         RemovesAsked-gives fits stands_for old _ (Some pair) takes.removes.ordered
         takes.removes.holds fit
     taken-gives None misses = tt
+
+-- what is seen to be absent is not there
+pub sees-nothing : {K V : Type 0} (stands_for : K → Bool) (state : CacheState K V) (seen : Option V)
+    → Sees stands_for state (λ item. item.value) seen → seen ≡ None → HasNoItem stands_for state
+sees-nothing stands_for state _ (Sees.is_there place before item after there) is =
+    let never : Some item.value ≡ None = is in absurd cc
+sees-nothing stands_for state _ (Sees.is_absent none) is = none
+
+-- a value that was written under a query was weighed by the rules of the shard before the look
+pub written-by : {K V We B L S : Type 0} (goes : Goes K V We B L S) (stands_for : K → Bool)
+    (equal : K → K → Bool)
+    → ((first second : K) → stands_for first ≡ true → stands_for second ≡ true
+    → equal first second ≡ true) → (old mid : Shard K V We B L) → KeepsWork old mid
+    → IsValid equal mid.state → (key : K) × (stands_for key ≡ true) → (left : V) (new : CacheState K V)
+    → ReweighsUnder stands_for (rules_in goes any_touches mid)
+    (with_value_under stands_for left mid.state) new
+    → UpToOrder (WritesItem (rules_in goes any_touches old) stands_for mid.state left true) new
+written-by {K} {V} {We} {B} {L} goes stands_for equal same old mid work valid asked left new
+    reweighs =
+    written (rules_in goes any_touches old) stands_for left mid.state new
+    (keys_by-query stands_for equal same mid.state valid asked.0 asked.1)
+    (subst (λ (rules : Rules K V). ReweighsUnder stands_for rules
+    (with_value_under stands_for left mid.state) new)
+    (ap (λ (shard : Shard K V We B L). rules_in goes any_touches shard) work) reweighs)

@@ -16,17 +16,20 @@ change_or_take-requires-clause-leaves g c =
     (λ value told left leaves. LeavesOf-says _ _ (Renews c.end_of-until.result) value told left
     leaves leaves.called))
 
--- it lived, and has the new end
-pub returns-in-Ok : goal.returns-in-Ok
-returns-in-Ok g c = record {
-  answers = rw (← c.end_of-until.ensures) (FromSome-map g.L.Lifecycle g.K.PartialEq.eq _ _
-      (λ shard. ChangesOrTakesSo-says _ (Renews c.end_of-until.result)
-      (λ value told left leaves. LeavesOf-says _ _ (Renews c.end_of-until.result) value told left
-      leaves leaves.called) (g.Q.Equivalent.equivalent c.args.query.now) _ (AnswersAt c.args.now)
-      (λ lasting said told. search rules) _ shard.state (Ok tt)) c.in-Ok.ensures.answers);
-  lived = λ _. HasLived-told g.L.Lifecycle.fits (g.Q.Equivalent.equivalent c.args.query.now)
-      c.args.now _ (λ lasting said told. search rules) _ tt c.in-Ok.ensures.told;
-}
+-- it has the new end
+pub returns-in-Ok-clause-answers : goal.returns-in-Ok-clause-answers
+returns-in-Ok-clause-answers g c =
+    rw (← c.end_of-until.ensures) (FromSome-map g.L.Lifecycle g.K.PartialEq.eq _ _
+    (λ shard. ChangesOrTakesSo-says _ (Renews c.end_of-until.result)
+    (λ value told left leaves. LeavesOf-says _ _ (Renews c.end_of-until.result) value told left
+    leaves leaves.called) (g.Q.Equivalent.equivalent c.args.query.now) _ (AnswersAt c.args.now)
+    (λ lasting said told. search rules) _ shard.state (Ok tt)) c.in-Ok.ensures.answers)
+
+-- and lived
+pub returns-in-Ok-clause-lived : goal.returns-in-Ok-clause-lived
+returns-in-Ok-clause-lived g c = λ _.
+    HasLived-told g.L.Lifecycle.fits (g.Q.Equivalent.equivalent c.args.query.now) c.args.now _
+    (λ lasting said told. search rules) _ tt c.in-Ok.ensures.told
 
 -- it was over, or none was there
 pub returns-in-Err-clause-answers : goal.returns-in-Err-clause-answers
