@@ -13,5 +13,4 @@ pub mod room;
 pub mod runs;
 pub mod saved;
 pub mod served;
-pub mod tested;
 pub mod weighed;

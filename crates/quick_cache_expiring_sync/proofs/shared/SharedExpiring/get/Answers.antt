@@ -1,5 +1,4 @@
 use Rattle.std.proofs.Common.{Ok, Err, rules}
-use Rattle.quick_cache_locked.specs.Peeks.{Miss}
 use Rattle.quick_cache_expiring_sync.proofs.LookLemmas.{FromSome-map, ShowsAt-tested, FitsAt-tested}
 use Rattle.quick_cache_expiring_sync.proofs.shared.SharedExpiring.get.Goals as goal
 
@@ -23,14 +22,14 @@ pub returns-in-Ok-Err-Failed-clause-answers : goal.returns-in-Ok-Err-Failed-clau
 returns-in-Ok-Err-Failed-clause-answers g c =
     FromSome-map g.L.Lifecycle g.K.PartialEq.eq _ _
     (λ shard. ShowsAt-tested (g.Q.Equivalent.equivalent c.args.query.now) g.V.Clone.is_clone
-    c.args.now _ (λ lasting said told. search rules) shard.state (Ok (Err Miss.Failed)))
+    c.args.now _ (λ lasting said told. search rules) shard.state (Ok (Err c.in-Ok-Err-Failed.field-0-0)))
     (rw c.in-Ok-Err-Failed.field-0-is at c.in-Ok-Err-Failed.ensures.answers)
 
 pub returns-in-Ok-Err-Absent-clause-answers : goal.returns-in-Ok-Err-Absent-clause-answers
 returns-in-Ok-Err-Absent-clause-answers g c =
     FromSome-map g.L.Lifecycle g.K.PartialEq.eq _ _
     (λ shard. ShowsAt-tested (g.Q.Equivalent.equivalent c.args.query.now) g.V.Clone.is_clone
-    c.args.now _ (λ lasting said told. search rules) shard.state (Ok (Err Miss.Absent)))
+    c.args.now _ (λ lasting said told. search rules) shard.state (Ok (Err c.in-Ok-Err-Absent.field-0-0)))
     (rw c.in-Ok-Err-Absent.field-0-is at c.in-Ok-Err-Absent.ensures.answers)
 
 pub returns-in-Err-clause-answers : goal.returns-in-Err-clause-answers

@@ -8,13 +8,14 @@ use Rattle.quick_cache_expiring_sync.proofs.shared.SharedExpiring.get_and_touch.
 
 -- with the new end it fits, or it was left as it was
 pub change_or_take-requires-clause-leaves : goal.change_or_take-requires-clause-leaves
-change_or_take-requires-clause-leaves g c =
-    rw (← c.end_of-until.ensures)
-    (RenewsClone-fitting g.L.Lifecycle.fits (g.Q.Equivalent.equivalent c.args.query.now) c.args.now
-    _ (λ lasting said told. search rules) c.end_of-until.result
-    (rw (← c.end_of-until.ensures) at c.requires.renews) g.V.Clone.is_clone _
-    (λ value told left leaves. LeavesOf-says _ _
-    (RenewsClone g.V.Clone.is_clone c.end_of-until.result) value told left leaves leaves.called))
+change_or_take-requires-clause-leaves g c = λ key value told left stands fit passed did.
+    RenewsClone-fitting g.L.Lifecycle.fits (g.Q.Equivalent.equivalent c.args.query.now) c.args.now
+    (AnswersAt c.args.now) (λ lasting said says. says) c.end_of-until.result
+    (rw (← c.end_of-until.ensures) at c.requires.renews) g.V.Clone.is_clone
+    (RenewsClone g.V.Clone.is_clone c.end_of-until.result) (λ was tells now renews. renews) key
+    value told left stands fit (search rules)
+    (LeavesOf-says _ _ (RenewsClone g.V.Clone.is_clone c.end_of-until.result) value told left did
+    did.called)
 
 -- it lived, and a clone of it is given
 pub returns-in-Ok-Ok-clause-answers : goal.returns-in-Ok-Ok-clause-answers

@@ -8,13 +8,12 @@ use Rattle.quick_cache_expiring_sync.proofs.shared.SharedExpiring.touch.Goals as
 
 -- with the new end it fits
 pub change_or_take-requires-clause-leaves : goal.change_or_take-requires-clause-leaves
-change_or_take-requires-clause-leaves g c =
-    rw (← c.end_of-until.ensures)
-    (Renews-fitting g.L.Lifecycle.fits (g.Q.Equivalent.equivalent c.args.query.now) c.args.now _
-    (λ lasting said told. search rules) c.end_of-until.result
-    (rw (← c.end_of-until.ensures) at c.requires.renews) _
-    (λ value told left leaves. LeavesOf-says _ _ (Renews c.end_of-until.result) value told left
-    leaves leaves.called))
+change_or_take-requires-clause-leaves g c = λ key value told left stands fit passed did.
+    Renews-fitting g.L.Lifecycle.fits (g.Q.Equivalent.equivalent c.args.query.now) c.args.now
+    (AnswersAt c.args.now) (λ lasting said says. says) c.end_of-until.result
+    (rw (← c.end_of-until.ensures) at c.requires.renews) (Renews c.end_of-until.result)
+    (λ was tells now renews. renews) key value told left stands fit (search rules)
+    (LeavesOf-says _ _ (Renews c.end_of-until.result) value told left did did.called)
 
 -- it has the new end
 pub returns-in-Ok-clause-answers : goal.returns-in-Ok-clause-answers
