@@ -2,7 +2,6 @@
 use quick_cache_expiring_sync::{Refusal, SharedExpiring};
 use std::alloc::Global;
 use std::sync::Wait;
-use std::time::Clock;
 
 /// For how many seconds a session lasts.
 const HOUR: u64 = 3600;
@@ -36,16 +35,13 @@ impl SignedIn {
     }
 
     /// Whose session it is, which lasts an hour from this second on. One that is over stays so.
-    pub fn seen<R: Wait + Clock>(
+    pub fn seen<R: Wait>(
         &self,
         rt: &R,
         session: u64,
         second: u64,
     ) -> Result<Option<&'static str>, Refusal> {
-        if !self.sessions.touch(rt, &session, second, HOUR)? {
-            return Ok(None);
-        }
-        self.sessions.get(rt, &session, second)
+        self.sessions.get_and_touch(rt, &session, second, HOUR)
     }
 
     /// Takes out the sessions that are over, and tells how many those were.
@@ -62,7 +58,7 @@ mod tests {
     use test_tools::expect_eq;
 
     /// A hundred sessions of one thread, of which every second one is seen again.
-    fn visits<R: Wait + Clock>(rt: &R, store: &SignedIn, thread: u64) -> Result<u64, Refusal> {
+    fn visits<R: Wait>(rt: &R, store: &SignedIn, thread: u64) -> Result<u64, Refusal> {
         let mut seen = 0u64;
         for number in 0..100u64 {
             let session = thread.wrapping_mul(100).wrapping_add(number);

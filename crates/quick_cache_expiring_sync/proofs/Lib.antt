@@ -1,3 +1,4 @@
 mod LookLemmas
 mod PurgeLemmas
+mod RenewLemmas
 mod TellLemmas

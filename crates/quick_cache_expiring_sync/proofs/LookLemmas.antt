@@ -1,5 +1,5 @@
 -- Looks at entries that end, from looks at values with their ends.
-use Rattle.std.proofs.Common.{◌≡◌, ℕ, Bool, true, false, Option, Some, None, Result, Ok, Err, inl, inr, ap, subst, ◌∙◌}
+use Rattle.std.proofs.Common.{◌≡◌, ℕ, Bool, true, Option, Some, None, Result, Ok, Err, ap, subst, sym, ◌∙◌}
 use Rattle.std.specs.Result.{IsErrAnd}
 use Rattle.std.proofs.lemmas.Result.{err_from_is_err_and}
 use Rattle.quick_cache_model.specs.declared.refusal.Refusal.{Refusal}
@@ -7,11 +7,14 @@ use Rattle.quick_cache_model.specs.declared.terms.lifecycle.Lifecycle as lifecyc
 use Rattle.quick_cache_model.specs.CacheState.{CacheState}
 use Rattle.quick_cache_shard.specs.Shard.{Shard}
 use Rattle.quick_cache_locked.specs.Locked.{FromSome}
-use Rattle.quick_cache_locked.specs.Peeks.{Peeks}
+use Rattle.quick_cache_locked.specs.Fitting.{FitsQuery}
+use Rattle.quick_cache_locked.specs.Peeks.{Miss, Peeks, PeeksIf}
+use Rattle.quick_cache_shard.proofs.TestLemmas.{PeeksIf-weaker}
 use Rattle.quick_cache_expiring.specs.declared.lasting.Lasting.{Lasting}
+use Rattle.quick_cache_expiring.specs.Entries.{AnswersAt}
 use Rattle.quick_cache_expiring.specs.Lastings.{ClonesLasting}
 use Rattle.quick_cache_expiring.specs.Lives.{lives}
-use Rattle.quick_cache_expiring_sync.specs.Looks.{ShowsAt, ShowsEnd}
+use Rattle.quick_cache_expiring_sync.specs.Looks.{FitsAt, ShowsAt, ShowsEnd}
 
 -- what holds of some shard does so in other words
 pub FromSome-map : {K V We B L S : Type 0} (life : lifecycle.Ghosts L K V S)
@@ -30,26 +33,46 @@ pub handed-on : {X E : Type 0} (answer : Result X E) (refusal : E)
 handed-on answer refusal same =
     let handed = err_from_is_err_and answer same in handed.1 ∙ ap Err handed.2
 
+-- the value that a look with a test shows
+abbrev pub shown_of : {V : Type 0} → Result (Result (Lasting V) Miss) Refusal
+    → Result (Option V) Refusal
+shown_of (Ok (Ok lasting)) = Ok (Some lasting.value)
+shown_of (Ok (Err miss)) = Ok None
+shown_of (Err refusal) = Err refusal
+
 module _ {K V : Type 0} (test : K → Bool) (is_clone : V → V → Type 0) (now : ℕ)
-    (answer : Result (Option (Lasting V)) Refusal) (state : CacheState K (Lasting V)) where
-  -- a value that is seen and lives is shown
-  pub ShowsAt-lives : (lasting : Lasting V) → answer ≡ Ok (Some lasting)
-      → lives lasting.until now ≡ true → Peeks test (ClonesLasting is_clone) state answer
-      → ShowsAt test is_clone now state (Ok (Some lasting.value))
-  ShowsAt-lives lasting is live seen =
-      (lasting.until, live, subst (Peeks test (ClonesLasting is_clone) state) is seen)
+    (answers : Lasting V → Bool → Type 0)
+    (told : (lasting : Lasting V) (said : Bool) → answers lasting said → AnswersAt now lasting said)
+  where
+    -- a look with the test whether an entry serves is one at a moment
+    pub ShowsAt-tested : (state : CacheState K (Lasting V))
+        (found : Result (Result (Lasting V) Miss) Refusal)
+        → PeeksIf test (ClonesLasting is_clone) answers state found
+        → ShowsAt test is_clone now state (shown_of found)
+    ShowsAt-tested state (Ok (Ok lasting)) peeks = (
+      lasting.until,
+      PeeksIf-weaker test answers (AnswersAt now) told state (ClonesLasting is_clone)
+          (Ok (Ok lasting)) peeks,
+    )
+    ShowsAt-tested state (Ok (Err miss)) peeks = (
+      miss,
+      PeeksIf-weaker test answers (AnswersAt now) told state (ClonesLasting is_clone)
+          (Ok (Err miss)) peeks,
+    )
+    ShowsAt-tested state (Err refusal) peeks =
+        PeeksIf-weaker test answers (AnswersAt now) told state (ClonesLasting is_clone)
+        (Err refusal) peeks
 
-  -- one that is over is not
-  pub ShowsAt-over : (lasting : Lasting V) → answer ≡ Ok (Some lasting)
-      → lives lasting.until now ≡ false → Peeks test (ClonesLasting is_clone) state answer
-      → ShowsAt test is_clone now state (Ok None)
-  ShowsAt-over lasting is over seen =
-      inr (lasting, over, subst (Peeks test (ClonesLasting is_clone) state) is seen)
-
-  -- nor is what is absent
-  pub ShowsAt-absent : answer ≡ Ok None → Peeks test (ClonesLasting is_clone) state answer
-      → ShowsAt test is_clone now state (Ok None)
-  ShowsAt-absent is seen = inl (subst (Peeks test (ClonesLasting is_clone) state) is seen)
+    -- what it shows fits with an end that is not reached
+    pub FitsAt-tested : (fits : K → Lasting V → Type 0) (state : CacheState K (Lasting V))
+        (lasting : Lasting V)
+        → PeeksIf test (ClonesLasting is_clone) answers state (Ok (Ok lasting))
+        → FitsQuery fits test lasting → FitsAt fits test now lasting.value
+    FitsAt-tested fits state _ (PeeksIf.passes value clone sees said cloned) fit = record {
+      until = clone.until;
+      lives_then = ap (λ until. lives until now) cloned.1 ∙ sym (told value true said);
+      fits_query = fit;
+    }
 
 module _ {K V : Type 0} (test : K → Bool) (is_clone : V → V → Type 0)
     (answer : Result (Option (Lasting V)) Refusal) (state : CacheState K (Lasting V)) where

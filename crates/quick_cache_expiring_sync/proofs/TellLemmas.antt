@@ -1,5 +1,5 @@
 -- What a callback told of an entry that ends.
-use Rattle.std.proofs.Common.{◌≡◌, ℕ, Bool, true, false, IsTrue, Result, Ok, Err, refl, subst}
+use Rattle.std.proofs.Common.{◌≡◌, ℕ, Bool, Result, Ok, Err, refl, subst}
 use denote.Ref.{Bor, MutBor}
 use denote.Param.Members.{Once}
 use Rattle.quick_cache_model.specs.declared.refusal.Refusal.{Refusal}
@@ -8,27 +8,8 @@ use Rattle.quick_cache_guard.specs.Acts.{LeavesOnce, MayTell}
 use Rattle.quick_cache_locked.specs.Fitting.{ClonesFit}
 use Rattle.quick_cache_expiring.specs.declared.lasting.Lasting.{Lasting}
 use Rattle.quick_cache_expiring.specs.Lastings.{ClonesLasting, lasting_of}
-use Rattle.quick_cache_expiring.specs.Lives.{lives}
 use Rattle.quick_cache_expiring_sync.specs.Looks.{FitsAt}
-use Rattle.quick_cache_expiring_sync.specs.Renewals.{HasLived, ChoosesByEnd}
 use Rattle.quick_cache_expiring_sync.specs.Loads.{ChoosesToLoad}
-
--- what it told to be renewed lived
-pub HasLived-told : {F K V : Type 0}
-    (calls : Once F (Bor K × (MutBor (Lasting V) × Unit {0}))
-    (EntryAction Bool × (MutBor (Lasting V) × Unit {0})))
-    (fits : K → Lasting V → Type 0) (test : K → Bool) (callback : F) (now until : ℕ)
-    (renewed : Bool) (told : MayTell (LeavesOnce calls callback) fits test renewed)
-    → ChoosesByEnd now until told.called.shown.now (EntryAction.Retain renewed)
-    told.called.left_by.now
-    → IsTrue renewed → HasLived fits test now
-HasLived-told calls fits test callback now until true told chosen so = record {
-  was = told.value;
-  lived = subst (λ (lasting : Lasting _). lives lasting.until now ≡ true) told.called.shows.1 chosen.0;
-  fits_query = record { key = told.key; stands = told.stands; fits_key = told.fits_key };
-}
-HasLived-told calls fits test callback now until false told chosen so =
-    let never : false ≡ true = so in absurd cc
 
 -- a clone that it told lives and fits with the end that it was shown
 pub FitsAt-told : {F K V : Type 0}

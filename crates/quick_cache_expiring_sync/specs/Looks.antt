@@ -1,24 +1,26 @@
 -- What looks at entries that end show, beside other threads.
-use Rattle.std.specs.Prelude.{◌≡◌, ℕ, ◌⊎◌, Bool, true, false, Option, Some, None, Result, Ok, Err, IfOk, IfSome}
+use Rattle.std.specs.Prelude.{◌≡◌, ℕ, Bool, true, Option, Some, None, Result, Ok, Err, IfOk, IfSome}
 use Rattle.quick_cache_model.specs.declared.refusal.Refusal.{Refusal}
 use Rattle.quick_cache_model.specs.CacheState.{CacheState}
 use Rattle.quick_cache_locked.specs.Fitting.{ClonesFit, FitsQuery}
-use Rattle.quick_cache_locked.specs.Peeks.{Peeks}
+use Rattle.quick_cache_locked.specs.Peeks.{Miss, Peeks, PeeksIf}
 use Rattle.quick_cache_expiring.specs.declared.lasting.Lasting.{Lasting}
+use Rattle.quick_cache_expiring.specs.Entries.{AnswersAt}
 use Rattle.quick_cache_expiring.specs.Lastings.{ClonesLasting, lasting_of}
 use Rattle.quick_cache_expiring.specs.Lives.{lives}
 
 module _ {K V : Type 0} (stands_for : K → Bool) (is_clone : V → V → Type 0) where
   -- A look at a moment shows a clone of a value that is there with an end that is not reached. It
   -- shows none where what is there is over, or nothing is there. It is refused only where the clone
-  -- failed of what is there.
+  -- failed of a value whose end is not reached.
   abbrev pub ShowsAt : (now : ℕ) → CacheState K (Lasting V) → Result (Option V) Refusal → Type 0
-  ShowsAt now old (Ok (Some value)) = (until : ℕ) × (lives until now ≡ true)
-      × Peeks stands_for (ClonesLasting is_clone) old (Ok (Some (lasting_of value until)))
-  ShowsAt now old (Ok None) = Peeks stands_for (ClonesLasting is_clone) old (Ok None)
-      ⊎ ((lasting : Lasting V) × (lives lasting.until now ≡ false)
-      × Peeks stands_for (ClonesLasting is_clone) old (Ok (Some lasting)))
-  ShowsAt now old (Err refusal) = Peeks stands_for (ClonesLasting is_clone) old (Err refusal)
+  ShowsAt now old (Ok (Some value)) = (until : ℕ)
+      × PeeksIf stands_for (ClonesLasting is_clone) (AnswersAt now) old
+      (Ok (Ok (lasting_of value until)))
+  ShowsAt now old (Ok None) = (miss : Miss)
+      × PeeksIf stands_for (ClonesLasting is_clone) (AnswersAt now) old (Ok (Err miss))
+  ShowsAt now old (Err refusal) =
+      PeeksIf stands_for (ClonesLasting is_clone) (AnswersAt now) old (Err refusal)
 
   -- a look at the end shows that of what is there, or that nothing is
   abbrev pub ShowsEnd : CacheState K (Lasting V) → Result (Option ℕ) Refusal → Type 0

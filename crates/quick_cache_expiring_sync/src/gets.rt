@@ -13,6 +13,7 @@ ghost use Rattle.quick_cache_expiring_sync.specs.Purges.{GoesWhereOver};
 use crate::shared::SharedExpiring;
 use quick_cache_expiring::{ByValue, Lasting};
 use quick_cache_model::{Equivalent, Lifecycle, Refusal};
+use quick_cache_sync::Miss;
 use std::alloc::Allocator;
 use std::hash::{BuildHasher, Hash};
 use std::sync::Wait;
@@ -27,8 +28,9 @@ impl<
     A: Allocator,
 > SharedExpiring<K, V, We, B, L, A> {
     /// Looks the query's key up and gives a clone of its value, made under the lock, where it serves
-    /// at this moment. A hit or a miss is counted. An entry that is over counts as a miss and as
-    /// expired, and is taken out, unless another has stored what serves meanwhile. No hook is called.
+    /// at this moment. A hit or a miss is counted. An entry that is over is not cloned, counts as a
+    /// miss and as expired, and is taken out, unless another has stored what serves meanwhile. No hook
+    /// is called.
     ///
     /// It takes the read lock of the key's shard, and the write lock only to take out what is over.
     ///
@@ -46,15 +48,18 @@ impl<
             ShowsAt (Q.equivalent query.now) V.is_clone now shard.state result) }
         ensures fits { ShowsFittingAt L.fits (Q.equivalent query.now) V.is_clone now result }
     {
-        let found = self.cache.get(rt, query)?;
-        let Some(lasting) = found else {
-            return Ok(None);
-        };
-        if lasting.lives(now) {
-            return Ok(Some(lasting.value));
+        let serves = |lasting: &Lasting<V>| -> bool
+            ensures serves { result ≡ lives lasting.now.until now }
+        { lasting.lives(now) };
+        match self.cache.get_if(rt, query, serves) {
+            Ok(Ok(serving)) => Ok(Some(serving.value)),
+            Ok(Err(Miss::Failed)) => {
+                drop(self.expires(rt, query, now));
+                Ok(None)
+            }
+            Ok(Err(Miss::Absent)) => Ok(None),
+            Err(refusal) => Err(refusal),
         }
-        drop(self.expires(rt, query, now));
-        Ok(None)
     }
 
     /// Looks at the query's key and gives a clone of its value, made under the lock, where it serves
@@ -75,14 +80,14 @@ impl<
             ShowsAt (Q.equivalent query.now) V.is_clone now shard.state result) }
         ensures fits { ShowsFittingAt L.fits (Q.equivalent query.now) V.is_clone now result }
     {
-        let found = self.cache.peek(rt, query)?;
-        let Some(lasting) = found else {
-            return Ok(None);
-        };
-        if lasting.lives(now) {
-            return Ok(Some(lasting.value));
+        let serves = |lasting: &Lasting<V>| -> bool
+            ensures serves { result ≡ lives lasting.now.until now }
+        { lasting.lives(now) };
+        match self.cache.peek_if(rt, query, serves) {
+            Ok(Ok(lasting)) => Ok(Some(lasting.value)),
+            Ok(Err(_)) => Ok(None),
+            Err(refusal) => Err(refusal),
         }
-        Ok(None)
     }
 
     /// The end of the entry under the query's key, be it over or not. It is no use of the entry, and
@@ -118,7 +123,7 @@ impl<
 > SharedExpiring<K, V, We, B, L, A> {
     /// Counts that a look found what is over, and takes that out by one step that asks once more,
     /// since another may have stored what serves. It gives what it took out.
-    pub(crate) fn expires<Q: Equivalent<K>, R: Wait>(
+    fn expires<Q: Equivalent<K>, R: Wait>(
         &self,
         rt: &R,
         query: &Q,

@@ -65,6 +65,7 @@ impl<
                 if lasting.lives(now) {
                     return Ok(Ok(lasting.value));
                 }
+                self.not_hits.fetch_add(1, Ordering::SeqCst);
                 self.expired.fetch_add(1, Ordering::SeqCst);
                 self.load_anew(rt, query, now, life, loader)
             }

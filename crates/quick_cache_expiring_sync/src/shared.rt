@@ -34,8 +34,10 @@ pub struct SharedExpiring<
     A: Allocator = Global,
 > {
     pub(crate) cache: Cache<K, Lasting<V>, ByValue<We>, B, L, A>,
-    // How many looks found what was over, each of which the cache counted as a hit.
+    // How many looks found what was over.
     pub(crate) expired: AtomicU64,
+    // How many of these were loads, each of which the cache counted as a hit.
+    pub(crate) not_hits: AtomicU64,
     // The shard in which the next purge of some goes on, and the token there behind which it does, 0
     // for none. Whatever they are, such a purge is one of some entries.
     pub(crate) next_shard: AtomicUsize,
@@ -125,6 +127,7 @@ impl<
         Ok(SharedExpiring {
             cache,
             expired: AtomicU64::new(0),
+            not_hits: AtomicU64::new(0),
             next_shard: AtomicUsize::new(0),
             next_token: AtomicU32::new(0),
         })
@@ -185,11 +188,14 @@ impl<
     pub fn stats<R: Wait>(&self, rt: &R) -> Stats
         ensures misses { result.expired ≤ result.misses }
     {
+        // Each is counted behind its miss.
         let expired = self.expired.load(Ordering::SeqCst);
+        let not_hits = self.not_hits.load(Ordering::SeqCst);
+        let misses = self.cache.misses(rt).saturating_add(not_hits);
         Stats {
-            hits: self.cache.hits(rt).saturating_sub(expired),
-            misses: self.cache.misses(rt).saturating_add(expired),
-            expired,
+            hits: self.cache.hits(rt).saturating_sub(not_hits),
+            misses,
+            expired: expired.min(misses),
         }
     }
 }

@@ -1,29 +1,29 @@
 //! Entries that are written with an end, renewed, and removed.
-ghost use Rattle.std.specs.Prelude.{IfOk, IfErr, IfSome, IsTrue};
+ghost use Rattle.std.specs.Prelude.{◌≡◌, IfSome, IsTrue};
 ghost use Rattle.quick_cache_model.specs.Hashing.{hash_of};
 ghost use Rattle.quick_cache_shard.specs.Inserts.{with_pair};
 ghost use Rattle.quick_cache_shard.specs.Shard.{Shard};
-ghost use Rattle.quick_cache_guard.specs.Answers.{IsLoadRefusal};
+ghost use Rattle.quick_cache_shard.specs.Steps.{rules_in};
 ghost use Rattle.quick_cache_locked.specs.Fitting.{FitsQuery};
-ghost use Rattle.quick_cache_model.specs.Hashing.{StandsForGiven};
 ghost use Rattle.quick_cache_locked.specs.Locked.{FromSome};
+ghost use Rattle.quick_cache_locked.specs.Touches.{any_touches};
 ghost use Rattle.quick_cache_sync.specs.Answers.{InsertsAloneBy, RemovesSo};
-ghost use Rattle.quick_cache_expiring.specs.Lives.{end_of};
+ghost use Rattle.quick_cache_expiring.specs.Lives.{end_of, lives};
 ghost use Rattle.quick_cache_expiring.specs.Lastings.{lasting_of};
 ghost use Rattle.quick_cache_expiring.specs.declared.lasting.Lasting.{Lasting};
 ghost use Rattle.quick_cache_expiring.specs.declared.by_value.ByValue.{ByValue};
-ghost use Rattle.quick_cache_expiring_sync.specs.Renewals.{HasLived, ChoosesByEnd, RenewedFits};
+ghost use Rattle.quick_cache_expiring_sync.specs.Looks.{ShowsFittingAt};
+ghost use Rattle.quick_cache_expiring_sync.specs.Renewals.{GetsAndTouches, HasLived, RenewedFits, RenewsClone, Touches};
 
 use crate::shared::SharedExpiring;
 use quick_cache_expiring::{ByValue, Lasting, end_of};
-use quick_cache_guard::EntryResult;
-use quick_cache_model::{Equivalent, Lifecycle, Refusal, ToKey, Weighter};
-use quick_cache_shard::{EntryAction, Ruled};
+use quick_cache_model::{Equivalent, Lifecycle, Refusal, Weighter};
+use quick_cache_shard::Ruled;
 use quick_cache_sync::Cache;
 use std::alloc::Allocator;
 use std::hash::{BuildHasher, Hash};
 use std::sync::Wait;
-use std::time::{Clock, Duration};
+use std::sync::atomic::Ordering;
 
 impl<
     K: Eq + Hash + Drop,
@@ -81,6 +81,89 @@ impl<
     pub fn set_capacity<R: Wait>(&self, rt: &R, capacity: u64) {
         self.cache.set_capacity(rt, capacity);
     }
+
+    /// Gives the entry under the query's key a new end, where it serves at this moment: it is then
+    /// as if it had been stored now, for so long. It tells whether an entry was renewed. It is a look,
+    /// as `get` is: a hit or a miss is counted, and one that is over is taken out. It takes the write
+    /// lock of the key's shard, under which it looks and renews in one step, and no memory.
+    pub fn touch<Q: Equivalent<K>, R: Wait>(&self, rt: &R, query: &Q, now: u64, life: u64) -> bool
+        // What fits while it lives does with its new end.
+        requires renews { RenewedFits L.fits now (end_of now life) }
+        ensures answers { FromSome L.Lifecycle K.eq
+            (λ (shard : Shard K (Lasting V) (ByValue We) B L). Touches (Q.equivalent query.now) now
+            (end_of now life)
+            (rules_in ⟦<Cache<K, Lasting<V>, ByValue<We>, B, L, A> as Ruled>⟧.goes any_touches shard)
+            shard.state result) }
+        // What it renewed lived.
+        ensures lived { IsTrue result → HasLived L.fits (Q.equivalent query.now) now }
+    {
+        let until = end_of(now, life);
+        let serves = |lasting: &Lasting<V>| -> bool
+            ensures serves { result ≡ lives lasting.now.until now }
+        { lasting.lives(now) };
+        let renews = |lasting: &mut Lasting<V>| -> ()
+            ensures renews { lasting.new ≡ lasting_of lasting.old.value until }
+        { lasting.until = until };
+        match self.cache.change_or_take(rt, query, serves, renews) {
+            Ok(()) => true,
+            Err(taken) => {
+                self.drop_over(taken);
+                false
+            }
+        }
+    }
+
+    /// Renews the entry under the query's key as `touch` does, and gives a clone of its value: a
+    /// life that slides. It takes the write lock of the key's shard, under which the clone is made.
+    ///
+    /// # Errors
+    ///
+    /// `Memory` where the clone failed. The entry keeps its end then, and a hit was counted.
+    pub fn get_and_touch<Q: Equivalent<K>, R: Wait>(
+        &self,
+        rt: &R,
+        query: &Q,
+        now: u64,
+        life: u64,
+    ) -> Result<Option<V>, Refusal>
+    where
+        V: Clone,
+        requires renews { RenewedFits L.fits now (end_of now life) }
+        ensures answers { FromSome L.Lifecycle K.eq
+            (λ (shard : Shard K (Lasting V) (ByValue We) B L). GetsAndTouches
+            (Q.equivalent query.now) now (end_of now life)
+            (rules_in ⟦<Cache<K, Lasting<V>, ByValue<We>, B, L, A> as Ruled>⟧.goes any_touches shard)
+            shard.state V.is_clone result) }
+        ensures fits { ShowsFittingAt L.fits (Q.equivalent query.now) V.is_clone now result }
+    {
+        let until = end_of(now, life);
+        let serves = |lasting: &Lasting<V>| -> bool
+            ensures serves { result ≡ lives lasting.now.until now }
+        { lasting.lives(now) };
+        let renews = |lasting: &mut Lasting<V>| -> Result<V, Refusal>
+            ensures renews { RenewsClone V.is_clone until lasting.old result lasting.new }
+        { renew(lasting, until) };
+        match self.cache.change_or_take(rt, query, serves, renews) {
+            Ok(Ok(value)) => Ok(Some(value)),
+            Ok(Err(refusal)) => Err(refusal),
+            Err(taken) => {
+                self.drop_over(taken);
+                Ok(None)
+            }
+        }
+    }
+}
+
+/// A clone of the value, which has a new end then.
+fn renew<V: Clone>(lasting: &mut Lasting<V>, until: u64) -> Result<V, Refusal>
+    ensures { RenewsClone V.is_clone until lasting.old result lasting.new }
+{
+    let clone: Result<_, _> = lasting.value.clone();
+    let Ok(value) = clone else {
+        return Err(Refusal::Memory);
+    };
+    lasting.until = until;
+    Ok(value)
 }
 
 impl<
@@ -108,69 +191,11 @@ impl<
     pub fn clear<R: Wait>(&self, rt: &R) {
         self.cache.clear(rt);
     }
-}
 
-impl<
-    K: Eq + Hash + Drop,
-    V: Clone + Drop,
-    We: Weighter<K, V>,
-    B: BuildHasher,
-    L: Lifecycle<K, Lasting<V>>,
-    A: Allocator + Clone,
-> SharedExpiring<K, V, We, B, L, A> {
-    /// Gives the entry under the query's key a new end, where it serves at this moment: it is then
-    /// as if it had been stored now, for so long. It tells whether an entry was renewed, which counts
-    /// as a hit. One that is over is taken out, and counts as a miss and as expired, as `get` does.
-    /// Where none stands, or the key is being loaded, nothing changes.
-    ///
-    /// It takes the read lock of the key's shard, and where an entry stands the write lock, under
-    /// which it looks and renews in one step. It waits for no load.
-    ///
-    /// # Errors
-    ///
-    /// `TicketsSpent`, `SlotsFull` or `Memory`, only where the entry had left between the two locks.
-    pub fn touch<Q: ToKey<K>, R: Wait + Clock>(
-        &self,
-        rt: &R,
-        query: &Q,
-        now: u64,
-        life: u64,
-    ) -> Result<bool, Refusal>
-        requires stands { StandsForGiven (Q.to_key_gives query.now) (Q.equivalent query.now) }
-        // What fits while it lives does with its new end.
-        requires renews { RenewedFits L.fits now (end_of now life) }
-        // What it renewed lived.
-        ensures lived { IfOk result (λ renewed. IsTrue renewed
-            → HasLived L.fits (Q.equivalent query.now) now) }
-        ensures refused { IfErr result IsLoadRefusal }
-    {
-        if !self.cache.contains_key(rt, query) {
-            return Ok(false);
-        }
-        let until = end_of(now, life);
-        let renews = |_key: &K, lasting: &mut Lasting<V>| -> EntryAction<bool>
-            ensures chooses { ChoosesByEnd now until lasting.old result lasting.new }
-        { renew(lasting, now, until) };
-        match self.cache.entry(rt, query, Some(Duration::ZERO), renews) {
-            EntryResult::Retained(renewed) => {
-                if !renewed {
-                    drop(self.expires(rt, query, now));
-                }
-                Ok(renewed)
-            }
-            EntryResult::Refused(refusal) => Err(refusal),
-            _ => Ok(false),
+    /// Drops what a look took out because it was over, and counts that.
+    fn drop_over(&self, taken: Option<(K, Lasting<V>)>) {
+        if taken.is_some() {
+            self.expired.fetch_add(1, Ordering::SeqCst);
         }
     }
-}
-
-/// Gives a value that lives at this moment a new end, and tells whether it did.
-fn renew<V>(lasting: &mut Lasting<V>, now: u64, until: u64) -> EntryAction<bool>
-    ensures chooses { ChoosesByEnd now until lasting.old result lasting.new }
-{
-    if !lasting.lives(now) {
-        return EntryAction::Retain(false);
-    }
-    lasting.until = until;
-    EntryAction::Retain(true)
 }

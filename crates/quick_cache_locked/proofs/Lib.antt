@@ -13,3 +13,4 @@ mod HeatLemmas
 mod SavedLemmas
 mod WalkLemmas
 mod PlaceLemmas
+mod ChangeLemmas

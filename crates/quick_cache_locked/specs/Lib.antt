@@ -1,6 +1,7 @@
 pub use Rattle.quick_cache_loading.specs.Touches
 pub mod Acting
 pub mod Asked
+pub mod Changes
 pub mod Counts
 pub mod Fitting
 pub mod Hottest

@@ -6,6 +6,8 @@ use Rattle.quick_cache_model.specs.Finding.{IsItemAt}
 use Rattle.quick_cache_model.specs.Lookups.{Sees}
 use Rattle.quick_cache_model.specs.Shown.{IsShown}
 use Rattle.quick_cache_loading.specs.Fitting.{ClonesFit, FitsQuery}
+pub use Rattle.quick_cache_shard.specs.Shared.{PeeksIf}
+pub use Rattle.quick_cache_shard.specs.Tests.{Miss}
 
 module _ {K V : Type 0} (stands_for : K → Bool) (is_clone : V → V → Type 0)
     (old : CacheState K V) where
@@ -24,3 +26,9 @@ abbrev pub ShowsFitting : {K V E : Type 0} → (fits : K → V → Type 0) → (
     → (is_clone : V → V → Type 0) → Result (Option V) E → Type 0
 ShowsFitting fits stands_for is_clone answer = ClonesFit fits is_clone
     → IfOk answer (λ found. IfSome found (λ value. FitsQuery fits stands_for value))
+
+-- the same of a look with a test
+abbrev pub PassesFitting : {K V M E : Type 0} → (fits : K → V → Type 0) → (stands_for : K → Bool)
+    → (is_clone : V → V → Type 0) → Result (Result V M) E → Type 0
+PassesFitting fits stands_for is_clone answer = ClonesFit fits is_clone
+    → IfOk answer (λ found. IfOk found (λ value. FitsQuery fits stands_for value))

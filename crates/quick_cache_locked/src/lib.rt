@@ -12,3 +12,4 @@ pub use count::Count;
 pub use heated::Heated;
 pub use locked::LockedShard;
 pub use quick_cache_loading::sharing::{SharedPlaceholder, SharedTouches};
+pub use quick_cache_shard::Miss;

@@ -12,6 +12,7 @@ mod reads;
 mod removal;
 mod saving;
 mod sizes;
+mod tested;
 mod walks;
 mod writes;
 

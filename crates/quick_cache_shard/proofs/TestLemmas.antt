@@ -2,6 +2,7 @@
 use Rattle.std.proofs.Common.{◌≡◌, ℕ, ◌<◌, ◌≤◌, Bool, true, false, not, Option, Some, None, Result, Ok, Err, IfOk, refl}
 use Rattle.std.specs.Int.NonZero.{non_zero_u32_get as number}
 use Rattle.std.specs.declared.num.NonZeroU32.{NonZeroU32 as Token}
+use Rattle.quick_cache_model.specs.declared.refusal.Refusal.{Refusal}
 use Rattle.quick_cache_model.specs.CacheState.{CacheState}
 use Rattle.quick_cache_model.specs.Lookups.{looked_up}
 use Rattle.quick_cache_model.proofs.OrderLaws.{UpToOrder-map}
@@ -12,6 +13,8 @@ use Rattle.quick_cache_policy.specs.Predicates.{RemovesAsked}
 use Rattle.quick_cache_policy.specs.References.{count_under}
 use Rattle.quick_cache_policy.specs.Tests.{LooksUpOrTakesOut, PassesTest, TestsOrTakes, UnlessTaken}
 use Rattle.quick_cache_policy.specs.declared.contents.Contents.{Contents}
+use Rattle.quick_cache_policy.specs.declared.looking.tested.Miss.{Miss}
+use Rattle.quick_cache_shard.specs.Shared.{PeeksIf}
 use Rattle.quick_cache_shard.specs.Tests.{FindsOrTakes, GetsOrTakes}
 use Rattle.quick_cache_shard.proofs.PlaceLemmas.{HasItem-place, HasItem-resident}
 use Rattle.quick_cache_shard.proofs.ReferenceLemmas.{LooksUp-there}
@@ -52,6 +55,16 @@ module _ {K V : Type 0} (stands_for : K → Bool) (answers other : V → Bool �
     counts = takes.counts;
   }
   LooksUpOrTakesOut-weaker (Err None) new misses = misses
+
+  pub PeeksIf-weaker : (is_clone : V → V → Type 0) (found : Result (Result V Miss) Refusal)
+      → PeeksIf stands_for is_clone answers old found → PeeksIf stands_for is_clone other old found
+  PeeksIf-weaker is_clone _ (PeeksIf.passes value clone sees said cloned) =
+      PeeksIf.passes value clone sees (weaker value true said) cloned
+  PeeksIf-weaker is_clone _ (PeeksIf.fails value sees said) =
+      PeeksIf.fails value sees (weaker value false said)
+  PeeksIf-weaker is_clone _ (PeeksIf.is_absent none) = PeeksIf.is_absent none
+  PeeksIf-weaker is_clone _ (PeeksIf.refuses value sees said) =
+      PeeksIf.refuses value sees (weaker value true said)
 
 -- what follows from what holds unless something was taken out
 UnlessTaken-weaker : {T X P Q : Type 0} → (P → Q) → (found : Result T (Option X))

@@ -1,13 +1,15 @@
 //! Look-ups beside other readers, which add to counts alone.
 ghost use Rattle.std.specs.Prelude.{◌≡◌, IsOk, IfOk, IfErr, option_copied};
+ghost use Rattle.std.specs.Fn.{FnOnceReturnsAt};
 ghost use Rattle.quick_cache_model.specs.Lookups.{Sees};
+ghost use Rattle.quick_cache_policy.specs.Predicates.{MayBeAskedUnder};
 ghost use Rattle.quick_cache_shard.specs.Shard.{IsSoundShard, HasItem};
-ghost use Rattle.quick_cache_shard.specs.Shared.{ShowsClone};
+ghost use Rattle.quick_cache_shard.specs.Shared.{PeeksIf, ShowsClone};
 
 use crate::shard::CacheShard;
 use crate::words::Keyed;
 use quick_cache_model::{Equivalent, Refusal};
-use quick_cache_policy::SharedPlaceholder;
+use quick_cache_policy::{Miss, SharedPlaceholder};
 use std::alloc::Allocator;
 use std::hash::{BuildHasher, Hash};
 
@@ -91,5 +93,71 @@ impl<K: Eq + Hash, V, We, B: BuildHasher, L, P: SharedPlaceholder<K>, A: Allocat
             }
             Err(refusal) => Err(refusal),
         }
+    }
+
+    /// As `find_clone`, where the value passes the test, which is shown it once. One that fails is
+    /// not cloned, and nothing is counted.
+    ///
+    /// # Errors
+    ///
+    /// `Memory` where the clone failed. Nothing was counted then.
+    #[inline(always)]
+    pub fn find_clone_if<Q: Equivalent<K>, F: FnOnce(&V) -> bool>(
+        &self,
+        hash: u64,
+        query: &Q,
+        test: F,
+    ) -> Result<Result<V, Miss>, Refusal>
+    where
+        V: Clone,
+        requires hash_is { hash ≡ ⟦<Self as Keyed>⟧.hash self.now.builder (Q.hash_input query.now) }
+        requires callable { MayBeAskedUnder F.FnOnce test (Q.equivalent query.now) self.now.state }
+        ensures peeks { PeeksIf (Q.equivalent query.now) V.is_clone (FnOnceReturnsAt F.FnOnce test)
+            self.now.state result }
+        ensures succeeds { ((value : V) → V.is_infallible value) → IsOk result }
+        ensures sound { IsSoundShard K.eq self.now }
+    {
+        self.facts();
+        let Some(item) = self.contents.peek(hash, query) else {
+            return Ok(Err(Miss::Absent));
+        };
+        if !test(item.value()) {
+            return Ok(Err(Miss::Failed));
+        }
+        match item.value().clone() {
+            Ok(copy) => {
+                self.contents.count_shared_hit(&item);
+                Ok(Ok(copy))
+            }
+            Err(_) => Err(Refusal::Memory),
+        }
+    }
+
+    /// As `find_clone_if`, and a miss is counted where it gives no value.
+    ///
+    /// # Errors
+    ///
+    /// `Memory` where the clone failed. Nothing was counted then.
+    #[inline(always)]
+    pub fn get_clone_if<Q: Equivalent<K>, F: FnOnce(&V) -> bool>(
+        &self,
+        hash: u64,
+        query: &Q,
+        test: F,
+    ) -> Result<Result<V, Miss>, Refusal>
+    where
+        V: Clone,
+        requires hash_is { hash ≡ ⟦<Self as Keyed>⟧.hash self.now.builder (Q.hash_input query.now) }
+        requires callable { MayBeAskedUnder F.FnOnce test (Q.equivalent query.now) self.now.state }
+        ensures peeks { PeeksIf (Q.equivalent query.now) V.is_clone (FnOnceReturnsAt F.FnOnce test)
+            self.now.state result }
+        ensures succeeds { ((value : V) → V.is_infallible value) → IsOk result }
+        ensures sound { IsSoundShard K.eq self.now }
+    {
+        let found = self.find_clone_if(hash, query, test);
+        if let Ok(Err(_)) = found {
+            self.contents.count_shared_miss();
+        }
+        found
     }
 }

@@ -13,6 +13,7 @@ use Rattle.quick_cache_shard.specs.Replaces.{Replaces}
 use Rattle.quick_cache_shard.specs.RetainsSome.{RetainsSome}
 use Rattle.quick_cache_shard.specs.Shard.{Shard}
 use Rattle.quick_cache_shard.specs.Steps.{AnswersRestore, Goes, steady_in, hooks_in, rules_in}
+use Rattle.quick_cache_locked.specs.Changes.{ChangesOrTakes}
 use Rattle.quick_cache_locked.specs.Touches.{any_touches}
 
 module _ {K V : Type 0} (stands_for : K → Bool) (old : CacheState K V) where
@@ -25,6 +26,14 @@ module _ {K V : Type 0} (stands_for : K → Bool) (old : CacheState K V) where
   pub record RemovesAskedSo (answers : V → Bool → Type 0) (answer : Option (K × V)) : Type 0 where
     pub new : CacheState K V
     pub step : UpToOrder (RemovesAsked stands_for old answers answer) new
+
+-- the value under the query was changed where it passed a test, or was taken out, or none was there,
+-- and some state comes of it
+pub record ChangesOrTakesSo {K V T : Type 0} (leaves : V → T → V → Type 0) (stands_for : K → Bool)
+    (answers : V → Bool → Type 0) (rules : Rules K V) (old : CacheState K V)
+    (answer : Result T (Option (K × V))) : Type 0 where
+  pub new : CacheState K V
+  pub step : ChangesOrTakes leaves stands_for answers rules old answer new
 
 -- of the items those are gone that were answered no, so many, and some state comes of it
 pub record RetainsAskedSo {K V : Type 0} (answers : K → V → Bool → Type 0) (old : CacheState K V)

@@ -10,6 +10,7 @@ pub mod Tries
 pub mod Walks
 pub use Rattle.quick_cache_locked.specs.Touches
 pub use Rattle.quick_cache_locked.specs.Asked
+pub use Rattle.quick_cache_locked.specs.Changes
 pub use Rattle.quick_cache_locked.specs.Counts
 pub use Rattle.quick_cache_locked.specs.Fitting
 pub use Rattle.quick_cache_locked.specs.Locked

@@ -9,6 +9,7 @@ pub mod retaining;
 pub mod saving;
 pub mod sizes;
 pub mod tasks;
+pub mod tested;
 pub mod tries;
 pub mod walks;
 pub mod writes;

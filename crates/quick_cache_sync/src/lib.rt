@@ -11,4 +11,4 @@ pub use cache::Cache;
 pub use calls::walks::{Drain, Iter};
 pub use error::{LockContention, TryError};
 pub use lifecycle::DefaultLifecycle;
-pub use quick_cache_locked::Heated;
+pub use quick_cache_locked::{Heated, Miss};

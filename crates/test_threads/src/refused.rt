@@ -2,7 +2,7 @@
 ghost use Rattle.std.specs.Prelude.{◌≡◌};
 
 use crate::asked::{Ask, Said, answers};
-use quick_cache::sync::{Cache, DefaultLifecycle, TryError};
+use quick_cache::sync::{Cache, DefaultLifecycle, Miss, TryError};
 use quick_cache::{DefaultHashBuilder, Refusal, UnitWeighter};
 use std::alloc::{AllocError, Global};
 use test_tools::{Rationed, expect, expect_eq, expect_ok};
@@ -25,6 +25,42 @@ impl Clone for Coy {
             Err(AllocError)
         }
     }
+}
+
+/// What a look with a test gave.
+fn told(answer: Result<Result<Coy, Miss>, Refusal>) -> Result<Result<u64, Miss>, Refusal> {
+    match answer {
+        Ok(Ok(coy)) => Ok(Ok(coy.number)),
+        Ok(Err(miss)) => Ok(Err(miss)),
+        Err(refusal) => Err(refusal),
+    }
+}
+
+#[test]
+fn what_fails_a_test_is_not_cloned(rt: HostRuntime) {
+    let cache: Cache<u64, Coy> = expect_ok!(rt; Cache::new(rt.alloc(), 100));
+    expect!(rt; cache.insert(&rt, 1, Coy { number: 11 }).is_ok());
+    expect!(rt; cache.insert(&rt, 2, Coy { number: 22 }).is_ok());
+    let looks = [
+        told(cache.get_if(&rt, &1, |coy: &Coy| coy.number > 11)),
+        told(cache.find_if(&rt, &1, |coy: &Coy| coy.number > 11)),
+        told(cache.peek_if(&rt, &1, |coy: &Coy| coy.number > 11)),
+        told(cache.get_if(&rt, &1, |coy: &Coy| coy.number == 11)),
+        told(cache.get_if(&rt, &2, |coy: &Coy| coy.number > 11)),
+        told(cache.find_if(&rt, &2, |coy: &Coy| coy.number > 11)),
+        told(cache.peek_if(&rt, &2, |coy: &Coy| coy.number > 11)),
+        told(cache.get_if(&rt, &3, |coy: &Coy| coy.number > 11)),
+        told(cache.find_if(&rt, &3, |coy: &Coy| coy.number > 11)),
+    ];
+    let failed = Ok(Err(Miss::Failed));
+    let given = Ok(Ok(22));
+    let absent = Ok(Err(Miss::Absent));
+    let refused = Err(Refusal::Memory);
+    expect_eq!(rt;
+        looks,
+        [failed, failed, failed, refused, given, given, given, absent, absent]
+    );
+    expect_eq!(rt; (cache.hits(&rt), cache.misses(&rt)), (2, 2));
 }
 
 #[test]

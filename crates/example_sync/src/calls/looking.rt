@@ -1,5 +1,5 @@
 //! What stands in a cache is looked up, or looked at.
-use quick_cache::sync::Cache;
+use quick_cache::sync::{Cache, Miss};
 use quick_cache::sync_placeholder::GuardResult;
 use std::test::Fail;
 use test_tools::{expect, expect_eq};
@@ -33,6 +33,48 @@ fn peek(rt: HostRuntime) -> Result<(), Fail> {
     expect_eq!(rt; cache.peek(&rt, &"square"), Ok(Some(4)));
     // A look is no use of the item, and no hit.
     expect_eq!(rt; (cache.hits(&rt), cache.misses(&rt)), (0, 0));
+    Ok(())
+}
+
+#[test]
+fn get_if(rt: HostRuntime) -> Result<(), Fail> {
+    let cache = Cache::new(rt.alloc(), 100)?;
+    expect!(rt; cache.insert(&rt, "square", 4).is_ok());
+    let few = |sides: &u64| *sides < 5;
+    let looks = [
+        cache.get_if(&rt, &"square", few),
+        cache.find_if(&rt, &"square", few),
+        cache.peek_if(&rt, &"square", few),
+        // What fails stays, and is not cloned.
+        cache.get_if(&rt, &"square", |sides: &u64| *sides > 4),
+        cache.get_if(&rt, &"circle", few),
+        cache.find_if(&rt, &"circle", few),
+    ];
+    let (given, failed, absent) = (Ok(Ok(4)), Ok(Err(Miss::Failed)), Ok(Err(Miss::Absent)));
+    expect_eq!(rt; looks, [given, given, given, failed, absent, absent]);
+    // Only `get_if` counts a miss, and a peek is no hit.
+    expect_eq!(rt; (cache.hits(&rt), cache.misses(&rt)), (2, 2));
+    Ok(())
+}
+
+#[test]
+fn change_or_take(rt: HostRuntime) -> Result<(), Fail> {
+    let cache = Cache::new(rt.alloc(), 100)?;
+    expect!(rt; cache.insert(&rt, "square", 4).is_ok());
+    let few = |sides: &u64| *sides < 5;
+    // It tells what the callback tells, here what stood there.
+    let add = |sides: &mut u64| {
+        *sides = sides.saturating_add(1);
+        *sides
+    };
+    let changes = [
+        cache.change_or_take(&rt, &"square", few, add),
+        // What fails the test is taken out.
+        cache.change_or_take(&rt, &"square", few, add),
+        cache.change_or_take(&rt, &"square", few, add),
+    ];
+    expect_eq!(rt; changes, [Ok(5), Err(Some(("square", 5))), Err(None)]);
+    expect_eq!(rt; (cache.hits(&rt), cache.misses(&rt)), (1, 2));
     Ok(())
 }
 

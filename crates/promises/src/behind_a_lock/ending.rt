@@ -6,7 +6,6 @@ use quick_cache_expiring::Lasting;
 use quick_cache_expiring_sync::SharedExpiring;
 use quick_cache_model::{DefaultHashBuilder, Lifecycle, Refusal, UnitWeighter};
 use std::sync::Wait;
-use std::time::Clock;
 
 /// Says that each entry ends at the moment 20.
 #[derive(Drop)]
@@ -53,14 +52,21 @@ pub fn get_at_the_end<R: Wait>(rt: &R, ending: &Ending, key: &u64) -> Result<Opt
 }
 
 /// And none is renewed.
-pub fn touch_at_the_end<R: Wait + Clock>(
+pub fn touch_at_the_end<R: Wait>(rt: &R, ending: &Ending, key: &u64) -> bool
+    ensures { result ≡ false }
+{
+    ending.touch(rt, key, 20, 0)
+}
+
+/// Nor is one given as it is renewed.
+pub fn get_and_touch_at_the_end<R: Wait>(
     rt: &R,
     ending: &Ending,
     key: &u64,
-) -> Result<bool, Refusal>
-    ensures { IfOk result (λ renewed. renewed ≡ false) }
+) -> Result<Option<u64>, Refusal>
+    ensures { IfOk result (λ found. found ≡ None) }
 {
-    ending.touch(rt, key, 20, 0)
+    ending.get_and_touch(rt, key, 20, 0)
 }
 
 /// Just before it, a purge takes none.

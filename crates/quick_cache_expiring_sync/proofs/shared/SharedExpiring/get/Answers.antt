@@ -1,31 +1,40 @@
-use Rattle.std.proofs.Common.{ap, sym, ◌∙◌, Ok}
-use Rattle.quick_cache_expiring_sync.proofs.LookLemmas.{FromSome-map, ShowsAt-lives, ShowsAt-over, ShowsAt-absent, handed-on}
+use Rattle.std.proofs.Common.{Ok, Err, rules}
+use Rattle.quick_cache_expiring_sync.proofs.LookLemmas.{FromSome-map, ShowsAt-tested, FitsAt-tested}
 use Rattle.quick_cache_expiring_sync.proofs.shared.SharedExpiring.get.Goals as goal
 
-pub returns-in_err-found-clause-answers : goal.returns-in_err-found-clause-answers
-returns-in_err-found-clause-answers g c =
-    rw (handed-on c.from_residual.result c.in_err-found.field-0.0 c.from_residual.ensures.1)
-    c.in_err-found.ensures.answers
-
-pub returns-in_default-clause-answers : goal.returns-in_default-clause-answers
-returns-in_default-clause-answers g c =
+-- the value passed the test, which is whether it serves
+pub returns-in-Ok-Ok-clause-answers : goal.returns-in-Ok-Ok-clause-answers
+returns-in-Ok-Ok-clause-answers g c =
     FromSome-map g.L.Lifecycle g.K.PartialEq.eq _ _
-    (λ shard. ShowsAt-absent (g.Q.Equivalent.equivalent c.args.query.now) g.V.Clone.is_clone
-    c.args.now (Ok c.in_ok-found.found) shard.state (ap Ok c.in_default.is))
-    c.in_ok-found.ensures.answers
+    (λ shard. ShowsAt-tested (g.Q.Equivalent.equivalent c.args.query.now) g.V.Clone.is_clone
+    c.args.now _ (λ lasting said told. search rules) shard.state (Ok (Ok c.in-Ok-Ok.serving)))
+    (rw c.in-Ok-Ok.field-0-is at c.in-Ok-Ok.ensures.answers)
 
-pub returns-then-lives-clause-answers : goal.returns-then-lives-clause-answers
-returns-then-lives-clause-answers g c =
-    FromSome-map g.L.Lifecycle g.K.PartialEq.eq _ _
-    (λ shard. ShowsAt-lives (g.Q.Equivalent.equivalent c.args.query.now) g.V.Clone.is_clone
-    c.args.now (Ok c.in_ok-found.found) shard.state c.in-Some.lasting (ap Ok c.in-Some.is)
-    (sym c.lives.ensures ∙ c.if-lives.true))
-    c.in_ok-found.ensures.answers
+pub returns-in-Ok-Ok-clause-fits : goal.returns-in-Ok-Ok-clause-fits
+returns-in-Ok-Ok-clause-fits g c clones =
+    let some = rw c.in-Ok-Ok.field-0-is at c.in-Ok-Ok.ensures.answers in
+    FitsAt-tested (g.Q.Equivalent.equivalent c.args.query.now) g.V.Clone.is_clone c.args.now _
+    (λ lasting said told. search rules) g.L.Lifecycle.fits some.shard.state c.in-Ok-Ok.serving
+    some.holds (rw c.in-Ok-Ok.field-0-is at c.in-Ok-Ok.ensures.fits clones)
 
-pub returns-clause-answers : goal.returns-clause-answers
-returns-clause-answers g c =
+-- or failed it, or none was there
+pub returns-in-Ok-Err-Failed-clause-answers : goal.returns-in-Ok-Err-Failed-clause-answers
+returns-in-Ok-Err-Failed-clause-answers g c =
     FromSome-map g.L.Lifecycle g.K.PartialEq.eq _ _
-    (λ shard. ShowsAt-over (g.Q.Equivalent.equivalent c.args.query.now) g.V.Clone.is_clone
-    c.args.now (Ok c.in_ok-found.found) shard.state c.in-Some.lasting (ap Ok c.in-Some.is)
-    (sym c.lives.ensures ∙ c.if-lives.false))
-    c.in_ok-found.ensures.answers
+    (λ shard. ShowsAt-tested (g.Q.Equivalent.equivalent c.args.query.now) g.V.Clone.is_clone
+    c.args.now _ (λ lasting said told. search rules) shard.state (Ok (Err c.in-Ok-Err-Failed.field-0-0)))
+    (rw c.in-Ok-Err-Failed.field-0-is at c.in-Ok-Err-Failed.ensures.answers)
+
+pub returns-in-Ok-Err-Absent-clause-answers : goal.returns-in-Ok-Err-Absent-clause-answers
+returns-in-Ok-Err-Absent-clause-answers g c =
+    FromSome-map g.L.Lifecycle g.K.PartialEq.eq _ _
+    (λ shard. ShowsAt-tested (g.Q.Equivalent.equivalent c.args.query.now) g.V.Clone.is_clone
+    c.args.now _ (λ lasting said told. search rules) shard.state (Ok (Err c.in-Ok-Err-Absent.field-0-0)))
+    (rw c.in-Ok-Err-Absent.field-0-is at c.in-Ok-Err-Absent.ensures.answers)
+
+pub returns-in-Err-clause-answers : goal.returns-in-Err-clause-answers
+returns-in-Err-clause-answers g c =
+    FromSome-map g.L.Lifecycle g.K.PartialEq.eq _ _
+    (λ shard. ShowsAt-tested (g.Q.Equivalent.equivalent c.args.query.now) g.V.Clone.is_clone
+    c.args.now _ (λ lasting said told. search rules) shard.state (Err c.in-Err.refusal))
+    c.in-Err.ensures.answers

@@ -9,7 +9,7 @@ use Rattle.quick_cache_shard.specs.Shard.{Shard}
 use Rattle.quick_cache_shard.specs.Steps.{goes_by, hooks_in, rules_in, steady_in}
 use Rattle.quick_cache_unsync.specs.Loads.{FillsIfThere}
 use Rattle.quick_cache_unsync.specs.Touches.{no_touches}
-use Rattle.quick_cache_unsync.proofs.ReferenceLemmas.{written}
+use Rattle.quick_cache_shard.proofs.WrittenLemmas.{written}
 use Rattle.quick_cache_runs.specs.Made.{IsMadeBy}
 use Rattle.quick_cache_runs.proofs.CallSteps.{quietly}
 use Rattle.quick_cache_runs.proofs.LoadSteps.{sees-nothing, shows-nothing, guard-writes, guard-refuses-clone, guard-refuses, guard-drops}
