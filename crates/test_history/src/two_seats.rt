@@ -14,7 +14,7 @@ use std::thread::{Threads, join};
 use test_tools::expect_eq;
 
 /// A cache of numbers.
-type Numbers<J> = Recorded<
+pub(crate) type Numbers<J> = Recorded<
     u64,
     u64,
     UnitWeighter,

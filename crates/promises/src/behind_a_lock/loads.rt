@@ -88,7 +88,10 @@ pub fn start_and_fill<
     ensures told { OnOk result (FilledAlone L.RequestState.is_default S.fills key value) }
     ensures back { IfErr result (λ back. back ≡ value) }
 {
-    fill_or_take_back(PlaceholderGuard::start_loading(rt, shard, placeholder, key, share), value)
+    fill_or_take_back(
+        PlaceholderGuard::start_loading(rt, shard, placeholder, key, share),
+        value,
+    )
 }
 
 /// An entry call whose callback keeps what it sees removes nothing and replaces nothing, and with no

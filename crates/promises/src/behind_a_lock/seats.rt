@@ -51,12 +51,7 @@ pub fn remove_from_its_shard<
     L: Lifecycle<K, V>,
     J: Naming,
     R: Wait,
->(
-    rt: &R,
-    cache: &Recorded<K, V, We, B, L, J>,
-    seat: &mut Seat<K, V, J>,
-    key: &K,
-) -> Option<(K, V)>
+>(rt: &R, cache: &Recorded<K, V, We, B, L, J>, seat: &mut Seat<K, V, J>, key: &K) -> Option<(K, V)>
     ensures { Extends seat.old (Entry.Made seat.old.turn seat.new.turn
         (shard_of_hash cache.now.shards
         (hash_of B.BuildHasher B.Hasher.Hasher cache.now.builder (K.hash_input key.now)))
