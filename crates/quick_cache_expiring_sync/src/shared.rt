@@ -162,6 +162,7 @@ impl<
         Ok(SharedExpiring {
             cache,
             expired: AtomicU64::new(0),
+            not_hits: AtomicU64::new(0),
             next_shard: AtomicUsize::new(0),
             next_token: AtomicU32::new(0),
         })
