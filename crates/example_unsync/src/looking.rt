@@ -120,6 +120,23 @@ fn hits_and_misses(rt: HostRuntime) -> Result<(), Fail> {
 }
 
 #[test]
+fn stats(rt: HostRuntime) -> Result<(), Fail> {
+    let mut cache: Cache<u64, u64> = Cache::new(rt.alloc(), 5)?;
+    cache.insert(1, 10)?;
+    for key in [1, 1, 2] {
+        cache.get(&key);
+    }
+    let stats = cache.stats();
+    expect_eq!(rt; (stats.looks(), stats.hits_of_a_million()), (3, Some(666_666)));
+    // Lines for a page of metrics.
+    let lines = "cache_entries 1\ncache_weight 1\ncache_capacity 5\ncache_hits_total 2\n\
+        cache_misses_total 1\ncache_expired_total 0\ncache_loads_total 0\n\
+        cache_failed_loads_total 0";
+    expect_eq!(rt; format!(in rt.alloc(); "{stats}")?.as_str(), lines);
+    Ok(())
+}
+
+#[test]
 fn item_stats(rt: HostRuntime) -> Result<(), Fail> {
     let mut cache: Cache<u64, u64> = Cache::new(rt.alloc(), 5)?;
     cache.insert(1, 10)?;

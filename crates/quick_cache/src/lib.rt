@@ -12,3 +12,4 @@ pub use quick_cache_base::{
     Options, OptionsBuilder, Queue, Refusal, Table, Text, TextIn, ToKey, Token, UnitWeighter,
     Weighter, hash_of, linked_slab, options, protocol, sizes, table,
 };
+pub use quick_cache_sync::Stats;

@@ -40,12 +40,3 @@ impl<V: Clone> Clone for Lasting<V> {
         })
     }
 }
-
-/// How many looks found an entry that serves, how many found none, and how many of these found one
-/// that was over. Each is at most the greatest `u64`.
-#[derive(Debug, Clone, Copy, PartialEq, Eq)]
-pub struct Stats {
-    pub hits: u64,
-    pub misses: u64,
-    pub expired: u64,
-}

@@ -9,10 +9,11 @@ mod loaded;
 
 pub use alone::expiring::Expiring;
 pub use by_value::ByValue;
-pub use lasting::{Lasting, Stats, end_of};
+pub use lasting::{Lasting, end_of};
 pub use loaded::Loaded;
 pub use quick_cache_model::{
     Bytes, BytesIn, DefaultHashBuilder, Refusal, Text, TextIn, UnitWeighter, Weighter,
 };
 pub use quick_cache_options::options::{Error, Options, OptionsBuilder};
+pub use quick_cache_stats::Stats;
 pub use quick_cache_unsync::{DefaultLifecycle, LoadError};

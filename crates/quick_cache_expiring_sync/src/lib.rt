@@ -7,10 +7,11 @@ mod purging;
 mod shared;
 mod writes;
 
-pub use quick_cache_expiring::{ByValue, Lasting, Stats, end_of};
+pub use quick_cache_expiring::{ByValue, Lasting, end_of};
 pub use quick_cache_model::{
     Bytes, BytesIn, DefaultHashBuilder, Refusal, Text, TextIn, UnitWeighter, Weighter,
 };
 pub use quick_cache_options::options::{Error, Options, OptionsBuilder};
+pub use quick_cache_stats::Stats;
 pub use quick_cache_sync::DefaultLifecycle;
 pub use shared::SharedExpiring;

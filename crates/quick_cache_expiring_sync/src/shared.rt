@@ -9,9 +9,10 @@ ghost use Rattle.quick_cache_sync.specs.Sums.{AddsUp};
 ghost use Rattle.quick_cache_expiring.specs.declared.lasting.Lasting.{Lasting};
 ghost use Rattle.quick_cache_expiring.specs.declared.by_value.ByValue.{ByValue};
 
-use quick_cache_expiring::{ByValue, Lasting, Stats};
+use quick_cache_expiring::{ByValue, Lasting};
 use quick_cache_model::{DefaultHashBuilder, Lifecycle, Refusal, UnitWeighter};
 use quick_cache_options::options::Options;
+use quick_cache_stats::Stats;
 use quick_cache_sync::{Cache, DefaultLifecycle};
 use std::alloc::{Allocator, Global};
 use std::hash::{BuildHasher, Hash};
@@ -185,18 +186,32 @@ impl<
         self.cache.len(rt)
     }
 
-    /// What the looks found. It takes the read lock of each shard in turn, and looks at each slot.
+    /// What the cache holds, those that are over too, and what the looks found: each number by
+    /// itself, one after the other. It takes the read lock of each shard in turn, once for each
+    /// number, and looks at each slot. It counts no load.
     pub fn stats<R: Wait>(&self, rt: &R) -> Stats
+        ensures entries { AddsUp L.Lifecycle K.eq
+            (λ (shard : Shard K (Lasting V) (ByValue We) B L) shown.
+            Shows Count.Items shard.state shown) self.now.shards result.entries }
+        ensures weight { AddsUp L.Lifecycle K.eq
+            (λ (shard : Shard K (Lasting V) (ByValue We) B L) shown.
+            Shows Count.Weight shard.state shown) self.now.shards result.weight }
+        ensures capacity { AddsUp L.Lifecycle K.eq
+            (λ (shard : Shard K (Lasting V) (ByValue We) B L) shown.
+            Shows Count.Capacity shard.state shown) self.now.shards result.capacity }
         ensures misses { result.expired ≤ result.misses }
+        ensures loads { (result.loads ≡ 0) × (result.failed_loads ≡ 0) }
     {
         // Each is counted behind its miss.
         let expired = self.expired.load(Ordering::SeqCst);
         let not_hits = self.not_hits.load(Ordering::SeqCst);
-        let misses = self.cache.misses(rt).saturating_add(not_hits);
+        let held = self.cache.stats(rt);
+        let misses = held.misses.saturating_add(not_hits);
         Stats {
-            hits: self.cache.hits(rt).saturating_sub(not_hits),
+            hits: held.hits.saturating_sub(not_hits),
             misses,
             expired: expired.min(misses),
+            ..held
         }
     }
 }

@@ -12,3 +12,4 @@ pub use calls::walks::{Drain, Iter};
 pub use error::{LockContention, TryError};
 pub use lifecycle::DefaultLifecycle;
 pub use quick_cache_locked::{Heated, Miss};
+pub use quick_cache_stats::Stats;

@@ -13,6 +13,7 @@ pub mod LoadKinds
 pub mod Many
 pub mod Saving
 pub mod Hottest
+pub mod Stats
 pub mod Steps
 pub use Rattle.quick_cache_shard.specs.Saved
 pub use Rattle.quick_cache_shard.specs.Shard

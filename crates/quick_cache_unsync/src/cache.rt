@@ -12,6 +12,7 @@ ghost use Rattle.quick_cache_shard.specs.Copies.{ClonesAreEqual, IsCopyOf, Finds
 ghost use Rattle.quick_cache_shard.specs.Shard.{no_work, HasItem, IsSoundShard, UpToOrder, made_with};
 ghost use Rattle.quick_cache_shard.specs.Room.{most_room};
 ghost use Rattle.quick_cache_model.specs.Refusals.{slots_taken, slot_count};
+ghost use Rattle.quick_cache_unsync.specs.Stats.{stats_of};
 
 use crate::lifecycle::DefaultLifecycle;
 use quick_cache_model::{
@@ -22,6 +23,7 @@ use quick_cache_options::options::{
     DEFAULT_GHOST_ALLOCATION, DEFAULT_HOT_ALLOCATION, DEFAULT_MARK_CUT,
 };
 use quick_cache_shard::{CacheShard, Keyed, Placeholder, Ruled, Typed};
+use quick_cache_stats::Stats;
 use std::alloc::{Allocator, Global};
 use std::fmt::{Debug, Formatter, Write};
 use std::hash::{BuildHasher, Hash};
@@ -350,6 +352,22 @@ impl<K: Eq + Hash, V, We, B: BuildHasher, L, A: Allocator> Cache<K, V, We, B, L,
         ensures { result ≡ self.now.state.misses }
     {
         self.shard.misses()
+    }
+
+    /// What the cache holds and what its looks found, in one record.
+    pub fn stats(&self) -> Stats
+        ensures { result ≡ stats_of self.now.state }
+    {
+        Stats {
+            entries: self.len() as u64,
+            weight: self.weight(),
+            capacity: self.capacity(),
+            hits: self.hits(),
+            misses: self.misses(),
+            expired: 0,
+            loads: 0,
+            failed_loads: 0,
+        }
     }
 
     /// How many bytes the entries and the index that finds them take. What the keys and the values

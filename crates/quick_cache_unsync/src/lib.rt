@@ -25,5 +25,6 @@ pub use quick_cache_model::{
 };
 pub use quick_cache_options::options::{Error, Options, OptionsBuilder};
 pub use quick_cache_shard::{CacheShard, Miss, Placeholder, Plainly, SavedIter};
+pub use quick_cache_stats::Stats;
 pub use walking::drain::Drain;
 pub use walking::iter::Iter;

@@ -95,14 +95,18 @@ impl<
                 if found.is_due(refresh_after, now) {
                     let pace = Pace::steady(refresh_after);
                     if let Some(claimed) = self.claims(rt, key, now, pace) {
-                        return Ok(self.renewed(rt, key, now, claimed, found, load()));
+                        let loaded = load();
+                        self.count_load(&loaded);
+                        return Ok(self.renewed(rt, key, now, claimed, found, loaded));
                     }
                 }
                 Ok(Ok(Given::Fresh(found.value)))
             }
             GuardResult::Guard(guard) => {
                 let mut guard = Some(guard);
-                Ok(fill_with(&mut guard, key, now, load()))
+                let loaded = load();
+                self.count_load(&loaded);
+                Ok(fill_with(&mut guard, key, now, loaded))
             }
             GuardResult::Timeout => unreachable!(),
             // What could not be cloned may be too old to be.
@@ -139,7 +143,9 @@ impl<
         };
         if found.is_due(pace.pause(&found), now) {
             if let Some(claimed) = self.claims(rt, key, now, pace) {
-                return self.renewed(rt, key, now, claimed, found, load());
+                let loaded = load();
+                self.count_load(&loaded);
+                return self.renewed(rt, key, now, claimed, found, loaded);
             }
         }
         Ok(Given::Unasked(found.value))
@@ -169,14 +175,22 @@ impl<
             EntryResult::Retained(value) => Ok(Ok(Given::Fresh(value))),
             EntryResult::Replaced(guard, old) => {
                 let mut guard = Some(guard);
-                Ok(self.fill_or_keep(&mut guard, key, now, old, load()))
+                let loaded = load();
+                self.count_load(&loaded);
+                Ok(self.fill_or_keep(&mut guard, key, now, old, loaded))
             }
             EntryResult::Vacant(guard) => {
                 let mut guard = Some(guard);
-                Ok(fill_with(&mut guard, key, now, load()))
+                let loaded = load();
+                self.count_load(&loaded);
+                Ok(fill_with(&mut guard, key, now, loaded))
             }
             // There was no memory for a guard.
-            EntryResult::Removed(_, _) => Ok(as_given(load())),
+            EntryResult::Removed(_, _) => {
+                let loaded = load();
+                self.count_load(&loaded);
+                Ok(as_given(loaded))
+            }
             EntryResult::Timeout => unreachable!(),
             EntryResult::Refused(refusal) => Err(refusal),
         }
@@ -237,6 +251,14 @@ impl<
             EntryResult::Vacant(guard) => EntryResult::Vacant(guard),
             EntryResult::Timeout => EntryResult::Timeout,
             EntryResult::Refused(refusal) => EntryResult::Refused(refusal),
+        }
+    }
+
+    /// Counts a load, and whether it failed.
+    pub(crate) fn count_load<E>(&self, loaded: &Result<V, E>) {
+        self.loads.fetch_add(1, Ordering::SeqCst);
+        if loaded.is_err() {
+            self.failed_loads.fetch_add(1, Ordering::SeqCst);
         }
     }
 

@@ -236,6 +236,7 @@ impl<
     {
         let reading = self.reading;
         let value = reading.load(self.key, self.now);
+        reading.loads.fetch_add(1, Ordering::SeqCst);
         store(guard, self.key, self.now, value)
     }
 }

@@ -25,12 +25,3 @@ pub enum Given<V, E> {
     /// An older one whose loader was not asked: another call asks it, or has lately.
     Unasked(V),
 }
-
-/// How many gets found a value that serves, how many found none, and how many of these found one
-/// that was too old. Each is at most the greatest `u64`.
-#[derive(Debug, Clone, Copy, PartialEq, Eq)]
-pub struct Stats {
-    pub hits: u64,
-    pub misses: u64,
-    pub too_old: u64,
-}

@@ -12,9 +12,10 @@ mod pace;
 mod reading;
 
 pub use future::GetFuture;
-pub use given::{AnySource, Given, Source, Stats};
+pub use given::{AnySource, Given, Source};
 pub use lives::{ByAnswer, Lasting, Lives};
 pub use quick_cache_expiring::{ByValue, Loaded};
 pub use quick_cache_model::{Refusal, UnitWeighter, Weighter};
 pub use quick_cache_options::options::{Error, Options, OptionsBuilder};
+pub use quick_cache_stats::Stats;
 pub use reading::ReadThrough;

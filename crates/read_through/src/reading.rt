@@ -7,11 +7,12 @@ ghost use Rattle.read_through.specs.Answers.{IsOf};
 ghost use Rattle.read_through.specs.Counted.{Counted};
 
 use crate::fresh::Fresh;
-use crate::given::{AnySource, Source, Stats};
+use crate::given::{AnySource, Source};
 use quick_cache_expiring::{ByValue, Loaded};
 use quick_cache_locked::LockedShard;
 use quick_cache_model::{DefaultHashBuilder, Lifecycle, Refusal, UnitWeighter, Weighter};
 use quick_cache_options::options::Options;
+use quick_cache_stats::Stats;
 use quick_cache_sync::Cache;
 use std::alloc::{Allocator, Global};
 use std::hash::Hash;
@@ -53,6 +54,9 @@ pub struct ReadThrough<
     // How many hits of the cache are none here: of what was too old, or had no clone, or was looked at
     // once more.
     pub(crate) not_hits: AtomicU64,
+    // How often the loader was asked, and how many of these loads failed.
+    pub(crate) loads: AtomicU64,
+    pub(crate) failed_loads: AtomicU64,
 }
 
 impl<K: Eq + Hash + Drop, V: Drop, F, S: Source<K, V>, A: Allocator, Li, We> Model
@@ -210,6 +214,8 @@ impl<K: Eq + Hash + Drop, V: Drop, F, S: Source<K, V>, A: Allocator, Li, We> Rea
             loader,
             too_old: AtomicU64::new(0),
             not_hits: AtomicU64::new(0),
+            loads: AtomicU64::new(0),
+            failed_loads: AtomicU64::new(0),
         }
     }
 
@@ -297,23 +303,37 @@ impl<K: Eq + Hash + Drop, V: Drop, F, S: Source<K, V>, A: Allocator, Li, We> Rea
         self.cache.len(rt)
     }
 
-    /// What the gets found. One that found a value that was being loaded counts as a hit.
+    /// What is stored, fresh or not, what the gets found, and how often the loader was asked. A get
+    /// that found a value that was being loaded counts as a hit. It takes the read lock of each shard
+    /// in turn, once for each number, and looks at each slot.
     pub fn stats<R: Wait>(&self, rt: &R) -> Stats
+        ensures entries { Counted We ⟦<Fresh<S> as Lifecycle<K, Loaded<V>>>⟧ K.eq Count.Items
+            self.now.shards result.entries }
+        ensures weight { Counted We ⟦<Fresh<S> as Lifecycle<K, Loaded<V>>>⟧ K.eq Count.Weight
+            self.now.shards result.weight }
+        ensures capacity { Counted We ⟦<Fresh<S> as Lifecycle<K, Loaded<V>>>⟧ K.eq Count.Capacity
+            self.now.shards result.capacity }
         // Its misses are those of the cache behind it and what was too old; it tells no more hits.
         ensures misses { (counted : ℕ) × Counted We ⟦<Fresh<S> as Lifecycle<K, Loaded<V>>>⟧ K.eq
             Count.Misses self.now.shards counted
-            × (result.misses ≡ min (counted + result.too_old) (2 ^ 64 - 1)) }
+            × (result.misses ≡ min (counted + result.expired) (2 ^ 64 - 1)) }
         ensures hits { (counted : ℕ) × Counted We ⟦<Fresh<S> as Lifecycle<K, Loaded<V>>>⟧ K.eq
             Count.Hits self.now.shards counted × (result.hits ≤ counted) }
+        ensures failed { result.failed_loads ≤ result.loads }
     {
+        // Each is counted behind its load.
+        let failed_loads = self.failed_loads.load(Ordering::SeqCst);
+        let loads = self.loads.load(Ordering::SeqCst);
         let too_old = self.too_old.load(Ordering::SeqCst);
         let not_hits = self.not_hits.load(Ordering::SeqCst);
-        let hits = self.cache.hits(rt);
-        let misses = self.cache.misses(rt);
+        let held = self.cache.stats(rt);
         Stats {
-            hits: hits.saturating_sub(not_hits),
-            misses: misses.saturating_add(too_old),
-            too_old,
+            hits: held.hits.saturating_sub(not_hits),
+            misses: held.misses.saturating_add(too_old),
+            expired: too_old,
+            loads,
+            failed_loads: failed_loads.min(loads),
+            ..held
         }
     }
 

@@ -1,4 +1,5 @@
 //! What a cache tells of itself and of its shards.
+use quick_cache::Stats;
 use quick_cache::sync::Cache;
 use std::test::Fail;
 use test_tools::{expect, expect_eq};
@@ -24,6 +25,25 @@ fn hits_and_misses(rt: HostRuntime) -> Result<(), Fail> {
         cache.get(&rt, &key)?;
     }
     expect_eq!(rt; (cache.hits(&rt), cache.misses(&rt)), (2, 1));
+    Ok(())
+}
+
+#[test]
+fn stats(rt: HostRuntime) -> Result<(), Fail> {
+    let cache: Cache<u64, u64> = Cache::new(rt.alloc(), 100)?;
+    expect_eq!(rt; cache.insert(&rt, 1, 10), Ok(()));
+    for key in [1, 2] {
+        cache.get(&rt, &key)?;
+    }
+    let stats = Stats {
+        entries: 1,
+        weight: 1,
+        capacity: 100,
+        hits: 1,
+        misses: 1,
+        ..Stats::default()
+    };
+    expect_eq!(rt; cache.stats(&rt), stats);
     Ok(())
 }
 

@@ -5,11 +5,13 @@ ghost use Rattle.quick_cache_model.specs.Sizes.{hot_target_of, ghost_limit_of, d
 ghost use Rattle.quick_cache_model.specs.Touches.{counted_up};
 ghost use Rattle.quick_cache_shard.specs.Shard.{made_with};
 ghost use Rattle.quick_cache_unsync.specs.Saving.{empty_by};
+ghost use Rattle.quick_cache_unsync.specs.Stats.{stats_of};
 
 use crate::by_value::ByValue;
-use crate::lasting::{Lasting, Stats};
+use crate::lasting::Lasting;
 use quick_cache_model::{DefaultHashBuilder, Refusal, UnitWeighter};
 use quick_cache_options::options::Options;
+use quick_cache_stats::Stats;
 use quick_cache_unsync::{Cache, DefaultLifecycle, Token};
 use std::alloc::{Allocator, Global};
 use std::hash::{BuildHasher, Hash};
@@ -174,17 +176,19 @@ impl<K: Eq + Hash, V, We, B: BuildHasher, L, A: Allocator> Expiring<K, V, We, B,
         self.cache.len()
     }
 
-    /// What the looks found.
+    /// What the cache holds, those that are over too, and what the looks found. It counts no load.
     pub fn stats(&self) -> Stats
-        ensures hits { result.hits ≡ self.now.cache.state.hits }
         // A load that found what was over and was refused counts as a miss, too.
-        ensures misses { result.misses ≡ counted_up self.now.refused self.now.cache.state.misses }
-        ensures expired { result.expired ≡ self.now.expired }
+        ensures { result ≡ record (stats_of self.now.cache.state) {
+          misses = counted_up self.now.refused self.now.cache.state.misses;
+          expired = self.now.expired;
+        } }
     {
+        let held = self.cache.stats();
         Stats {
-            hits: self.cache.hits(),
-            misses: self.cache.misses().saturating_add(self.refused),
+            misses: held.misses.saturating_add(self.refused),
             expired: self.expired,
+            ..held
         }
     }
 }

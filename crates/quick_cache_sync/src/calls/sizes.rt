@@ -9,6 +9,7 @@ use crate::cache::Cache;
 use quick_cache_locked::Count;
 use quick_cache_model::{Lifecycle, MemoryUsed, Refusal, Weighter};
 use quick_cache_options::sizes::{shard_items, shard_weight};
+use quick_cache_stats::Stats;
 use std::alloc::Allocator;
 use std::hash::{BuildHasher, Hash};
 use std::sync::Wait;
@@ -80,6 +81,34 @@ impl<K: Eq + Hash + Drop, V: Drop, We, B: BuildHasher, L: Lifecycle<K, V>, A: Al
             Shows Count.Misses shard.state shown) self.now.shards result }
     {
         self.added_up(rt, Count::Misses)
+    }
+
+    /// What the cache holds and what its looks found, in one record: each number as its own call
+    /// tells it, one after the other, so calls by other threads may come between them. It takes the
+    /// read lock of each shard in turn, once for each number.
+    pub fn stats<R: Wait>(&self, rt: &R) -> Stats
+        ensures entries { AddsUp L.Lifecycle K.eq (λ (shard : Shard K V We B L) shown.
+            Shows Count.Items shard.state shown) self.now.shards result.entries }
+        ensures weight { AddsUp L.Lifecycle K.eq (λ (shard : Shard K V We B L) shown.
+            Shows Count.Weight shard.state shown) self.now.shards result.weight }
+        ensures capacity { AddsUp L.Lifecycle K.eq (λ (shard : Shard K V We B L) shown.
+            Shows Count.Capacity shard.state shown) self.now.shards result.capacity }
+        ensures hits { AddsUp L.Lifecycle K.eq (λ (shard : Shard K V We B L) shown.
+            Shows Count.Hits shard.state shown) self.now.shards result.hits }
+        ensures misses { AddsUp L.Lifecycle K.eq (λ (shard : Shard K V We B L) shown.
+            Shows Count.Misses shard.state shown) self.now.shards result.misses }
+        ensures others { (result.expired ≡ 0) × (result.loads ≡ 0) × (result.failed_loads ≡ 0) }
+    {
+        Stats {
+            entries: self.len(rt) as u64,
+            weight: self.weight(rt),
+            capacity: self.capacity(rt),
+            hits: self.hits(rt),
+            misses: self.misses(rt),
+            expired: 0,
+            loads: 0,
+            failed_loads: 0,
+        }
     }
 
     /// How many bytes the entries and the indexes that find them take. What the keys and the values

@@ -44,9 +44,14 @@ fn what_lives_is_renewed_and_what_is_over_is_purged(rt: HostRuntime) {
         expect_eq!(rt; (now, entries.purge(now), entries.len()), (now, gone, left));
     }
     let stats = Stats {
+        entries: 0,
+        weight: 0,
+        capacity: 8,
         hits: 1,
         misses: 2,
         expired: 1,
+        loads: 0,
+        failed_loads: 0,
     };
     expect_eq!(rt; entries.stats(), stats);
 }
@@ -101,9 +106,14 @@ fn what_is_over_is_loaded_anew(rt: HostRuntime) {
     expect_eq!(rt; entries.load(&2, 5, 10, || failed), Ok(Err(7)));
     expect_eq!(rt; (entries.len(), entries.peek(&2, 5).copied()), (1, None));
     let stats = Stats {
+        entries: 1,
+        weight: 1,
+        capacity: 8,
         hits: 2,
         misses: 4,
         expired: 2,
+        loads: 0,
+        failed_loads: 0,
     };
     expect_eq!(rt; entries.stats(), stats);
 }
@@ -165,9 +175,14 @@ fn a_load_gives_its_value(rt: HostRuntime) {
         expect_eq!(rt; (now, got), (now, answer));
     }
     let stats = Stats {
+        entries: 1,
+        weight: 1,
+        capacity: 8,
         hits: 1,
         misses: 4,
         expired: 2,
+        loads: 0,
+        failed_loads: 0,
     };
     expect_eq!(rt; entries.stats(), stats);
 }

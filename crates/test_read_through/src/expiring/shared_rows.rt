@@ -42,6 +42,7 @@ fn what_lives_is_renewed_by_threads_and_what_is_over_is_purged(rt: HostRuntime) 
         hits: 1,
         misses: 2,
         expired: 1,
+        ..entries.cache().stats(&rt)
     };
     expect_eq!(rt; entries.stats(&rt), stats);
 }
@@ -94,6 +95,7 @@ fn what_is_over_gives_its_place_to_a_load(rt: HostRuntime) {
         hits: 2,
         misses: 4,
         expired: 2,
+        ..entries.cache().stats(&rt)
     };
     expect_eq!(rt; entries.stats(&rt), stats);
     expect_eq!(rt; entries.get(&rt, &2, 5), Ok(None));

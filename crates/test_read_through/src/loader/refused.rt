@@ -92,9 +92,14 @@ fn what_cannot_be_stored_is_answered(rt: HostRuntime) {
     }
     // A get that was refused counts as nothing.
     let stats = Stats {
+        entries: 0,
+        weight: 0,
+        capacity: 8,
         hits: 1,
         misses: 4,
-        too_old: 1,
+        expired: 1,
+        loads: 4,
+        failed_loads: 0,
     };
     expect_eq!(rt; loaded.stats(&rt), stats);
 }

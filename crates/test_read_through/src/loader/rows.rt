@@ -77,9 +77,14 @@ fn what_is_removed_is_loaded_anew(rt: HostRuntime) {
     }
     // The first found nothing, the second was a hit, and the third found what is too old.
     let stats = Stats {
+        entries: 1,
+        weight: 1,
+        capacity: 8,
         hits: 1,
         misses: 2,
-        too_old: 1,
+        expired: 1,
+        loads: 2,
+        failed_loads: 0,
     };
     expect_eq!(rt; (loaded.len(&rt), loaded.stats(&rt)), (1, stats));
     let removed = loaded.remove(&rt, &1).map(|it| (it.value, it.moment));
@@ -111,4 +116,6 @@ fn an_error_is_stored_nowhere(rt: HostRuntime) {
     for (now, answer) in [(3, Err(3)), (4, Err(4)), (5, Ok(105)), (3, Ok(105))] {
         expect_eq!(rt; (now, loaded.try_get(&rt, &1, now)), (now, Ok(answer)));
     }
+    let stats = loaded.stats(&rt);
+    expect_eq!(rt; (stats.loads, stats.failed_loads), (3, 2));
 }
