@@ -44,6 +44,7 @@ awk -F '|' '
 0.9|fresh keys by a load, 1000
 0.9|fresh keys by a load, 10000
 0.9|fresh keys by a load, 100000
+1.15|a third ghosts by `get` and `insert`, 10000
 1.05|removal and insert, 1000
 1.05|removal and insert, 10000
 1.2|removal and insert, 100000

@@ -177,6 +177,8 @@ fn rows(numbers: &mut Numbers, operations: usize) -> Vec<Row> {
         let hits = [present.clone(), drawn].concat();
         let grown: Vec<u64> = (0..3 * entries).map(key).chain(fresh(3 * entries)).collect();
         let growing: Vec<u64> = (0..entries).map(key).chain(fresh(entries)).collect();
+        // A third of these keys meet a ghost, once the cache has seen them all.
+        let third: Vec<u64> = (0..3 * entries + operations).map(|_| key(numbers.below(entries + entries / 2))).collect();
         let mut standing = present.clone();
         let mut changes = present;
         for index in 0..operations / 2 {
@@ -195,6 +197,8 @@ fn rows(numbers: &mut Numbers, operations: usize) -> Vec<Row> {
         row("fresh keys by a load", Mode::Load, items, 3 * entries, grown.clone());
         row("fresh keys by `run`", Mode::Run, items, 3 * entries, grown);
         row("removal and insert", Mode::RemoveAndInsert, 2 * items, entries, changes);
+        row("a third ghosts by `get` and `insert`", Mode::GetAndInsert, items, 3 * entries, third.clone());
+        row("a third ghosts by a load", Mode::Load, items, 3 * entries, third);
     }
     for entries in [10_000, 100_000] {
         let keys = numbers.zipf(1_000_000, 0.9, operations);

@@ -19,11 +19,11 @@ counted() {
 }
 echo "| Operation | Instructions |"
 echo "|---|---|"
-for row in 9 10 11 12 13 15 16 17; do
+for row in 11 12 13 14 15 17 18 19 20 21; do
     few=$(counted $row 50000)
     many=$(counted $row 150000)
     name=$("$driver" count $row 10 | sed 's/ 10000 .*//')
     each=100000
-    [ $row = 17 ] && each=50000
+    [ $row = 19 ] && each=50000
     echo "| $name | $(((many - few) / each)) |"
 done

@@ -1,4 +1,5 @@
--- What the shards of a cache show of their items, one shard after the other.
+-- What the shards of a cache do one after the other: how they show their items, and how their
+-- capacity is set.
 use Rattle.std.specs.Prelude.{ℕ, ◌+◌, Bool, List, [], ◌++◌}
 use Rattle.quick_cache_model.specs.declared.terms.lifecycle.Lifecycle as lifecycle
 use Rattle.quick_cache_model.specs.CacheState.{CacheState}
@@ -18,3 +19,13 @@ module _ {K V L S : Type 0} (life : lifecycle.Ghosts L K V S) (equal : K → K �
 -- the value fits the key, as the lifecycle says it
 abbrev pub FitsHeated : {K V L S : Type 0} → lifecycle.Ghosts L K V S → Heated K V → Type 0
 FitsHeated life item = life.fits item.key item.value
+
+module _ {K V We B L S : Type 0} (life : lifecycle.Ghosts L K V S) (equal : K → K → Bool)
+    (sets : (old new : Shard K V We B L) → S → S → Type 0) where
+  -- So many shards were set, one after the other, each from what it was behind its lock then, and
+  -- the request state went from one to the next.
+  pub data SetInTurn : (shards : ℕ) → (first last : S) → Type 0 where
+    none : (state : S) → SetInTurn 0 state state
+    one_more : (shards : ℕ) (first mid last : S) → SetInTurn shards first mid
+        → FromSome life equal (λ old. (new : Shard K V We B L) × sets old new mid last)
+        → SetInTurn (shards + 1) first last

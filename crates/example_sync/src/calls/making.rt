@@ -88,3 +88,16 @@ fn set_capacity(rt: HostRuntime) -> Result<(), Fail> {
     expect_eq!(rt; (cache.capacity(&rt), cache.len(&rt)), (2, 2));
     Ok(())
 }
+
+#[test]
+fn set_capacity_with_lifecycle(rt: HostRuntime) -> Result<(), Fail> {
+    let cache: Cache<u64, u64> = Cache::new(rt.alloc(), 5)?;
+    for key in 0..5u64 {
+        expect_eq!(rt; cache.insert(&rt, key, key), Ok(()));
+    }
+    // The default lifecycle keeps the first two pairs that leave in a call.
+    let mut gone = [None, None];
+    cache.set_capacity_with_lifecycle(&rt, 2, &mut gone);
+    expect_eq!(rt; (cache.len(&rt), gone), (2, [Some((4, 4)), Some((0, 0))]));
+    Ok(())
+}

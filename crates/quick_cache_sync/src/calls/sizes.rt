@@ -1,14 +1,19 @@
 //! The numbers of a cache, which it asks of one shard after the other, and its sizes.
 ghost use Rattle.std.specs.Prelude.{◌≡◌, ℕ, ◌↔◌, IfErr, IsTrue};
+ghost use Rattle.quick_cache_model.specs.Sizes.{shard_part};
 ghost use Rattle.quick_cache_shard.specs.Shard.{Shard};
 ghost use Rattle.quick_cache_locked.specs.Locked.{FromSome};
+ghost use Rattle.quick_cache_shard.specs.Steps.{SetsCapacityBy};
 ghost use Rattle.quick_cache_locked.specs.Counts.{Shows};
+ghost use Rattle.quick_cache_locked.specs.Touches.{any_touches};
+ghost use Rattle.quick_cache_sync.specs.InTurn.{SetInTurn};
 ghost use Rattle.quick_cache_sync.specs.Sums.{AddsUp};
 
 use crate::cache::Cache;
 use quick_cache_locked::Count;
 use quick_cache_model::{Lifecycle, MemoryUsed, Refusal, Weighter};
 use quick_cache_options::sizes::{shard_items, shard_weight};
+use quick_cache_shard::Ruled;
 use quick_cache_stats::Stats;
 use std::alloc::Allocator;
 use std::hash::{BuildHasher, Hash};
@@ -135,6 +140,26 @@ impl<K: Eq + Hash + Drop, V: Drop, We, B: BuildHasher, L: Lifecycle<K, V>, A: Al
         for shard in &self.shards {
             let mut state = L::RequestState::default();
             shard.write(rt).set_capacity(part, &mut state);
+        }
+    }
+
+    /// As `set_capacity`, with this request state, which goes from shard to shard: what leaves is
+    /// told to it, and stays with the caller. Its hooks run under the write lock of the shard.
+    pub fn set_capacity_with_lifecycle<R: Wait>(
+        &self,
+        rt: &R,
+        capacity: u64,
+        state: &mut L::RequestState,
+    )
+    where
+        We: Weighter<K, V>,
+        ensures sets { SetInTurn L.Lifecycle K.eq (λ (old new : Shard K V We B L). SetsCapacityBy
+            ⟦<Self as Ruled>⟧.goes any_touches old (shard_part capacity self.now.shards) new)
+            self.now.shards state.old state.new }
+    {
+        let part = shard_weight(capacity, self.num_shards());
+        for index in 0..self.shards.len() {
+            self.shards[index].write(rt).set_capacity(part, state);
         }
     }
 
