@@ -6,4 +6,5 @@
 
 pub mod alone;
 pub mod behind_a_lock;
+pub mod counted;
 pub mod told;
