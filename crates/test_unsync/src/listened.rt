@@ -2,8 +2,8 @@
 //! and counts.
 use quick_cache_base::{DefaultHashBuilder, UnitWeighter};
 use quick_cache_listeners::{
-    ByLength, Cause, Collect, Collected, Held, ListenerWhy, OnLeave, OnLeaveWhy, PinHeld,
-    SharedTallies, Tally,
+    ByLength, Cause, Collect, Collected, Counted, Counts, Held, Ignore, ListenerWhy, OnLeave,
+    OnLeaveWhy, PinHeld, Request, SharedTallies, Tally, TellsTaken,
 };
 use quick_cache_unsync::{Cache, DefaultLifecycle};
 use std::alloc::Global;
@@ -90,6 +90,44 @@ fn a_put_tells_why_each_pair_left(rt: HostRuntime) {
     }
 }
 
+/// Counts what leaves, by the length of its text, and does nothing else.
+const COUNTED: Counted<ByLength, OnLeave<Ignore>> = Counted(ByLength, OnLeave(Ignore));
+
+#[test]
+fn what_the_caller_takes_out_is_counted_by_its_cause(rt: HostRuntime) {
+    let builder = DefaultHashBuilder::new();
+    let mut cache = expect_ok!(rt; Cache::with(rt.alloc(), 10, 100, ByLength, builder, COUNTED));
+    for (key, text) in [
+        (1, "one"),
+        (2, "three"),
+        (3, "fourth"),
+        (4, "seventh"),
+        (5, "eleventh"),
+    ] {
+        expect_eq!(rt; cache.put(key, text), Ok(()));
+    }
+    let mut told: Request<Counts<()>> = Request::default();
+    for key in [1, 1] {
+        COUNTED.tell_each_taken(&mut told, cache.remove(&key).into_iter(), Cause::Removed);
+    }
+    for key in [2, 3] {
+        let taken = cache.remove_if(&key, |text| text.len() == 6);
+        COUNTED.tell_each_taken(&mut told, taken.into_iter(), Cause::Retained);
+    }
+    COUNTED.tell_each_taken(&mut told, cache.drain(), Cause::Cleared);
+    COUNTED.tell_taken(&mut told, 6, "nine", Cause::Expired);
+    for (cause, pairs, weight) in [
+        (Cause::Removed, 1, 3),
+        (Cause::Retained, 1, 6),
+        (Cause::Cleared, 3, 20),
+        (Cause::Expired, 1, 4),
+        (Cause::Replaced, 0, 0),
+    ] {
+        expect_eq!(rt; told.state.tallies.of(cause), Tally { pairs, weight });
+    }
+    expect_eq!(rt; cache.len(), 0);
+}
+
 #[test]
 fn what_leaves_without_a_list_is_lost(rt: HostRuntime) {
     let builder = DefaultHashBuilder::new();
@@ -111,6 +149,10 @@ fn what_threads_count_is_told_by_its_cause(rt: HostRuntime) {
         (Cause::Replaced, 30),
         (Cause::TurnedAway, 40),
         (Cause::EvictedCold, 50),
+        (Cause::Expired, 60),
+        (Cause::Removed, 70),
+        (Cause::Cleared, 80),
+        (Cause::Retained, 90),
     ] {
         tallies.count(cause, weight);
     }
@@ -120,6 +162,10 @@ fn what_threads_count_is_told_by_its_cause(rt: HostRuntime) {
         (Cause::EvictedCold, 2, 70),
         (Cause::Replaced, 1, 30),
         (Cause::TurnedAway, 1, 40),
+        (Cause::Expired, 1, 60),
+        (Cause::Removed, 1, 70),
+        (Cause::Cleared, 1, 80),
+        (Cause::Retained, 1, 90),
     ] {
         expect_eq!(rt; seen.of(cause), Tally { pairs, weight });
     }
