@@ -2,8 +2,8 @@
 //! and counts.
 use quick_cache_base::{DefaultHashBuilder, UnitWeighter};
 use quick_cache_listeners::{
-    ByLength, Cause, Collect, Collected, Counted, Counts, Held, Ignore, ListenerWhy, OnLeave,
-    OnLeaveWhy, PinHeld, Request, SharedTallies, Tally, TellsTaken,
+    ByLength, Cause, Collect, CollectOrCount, Collected, Counted, Counts, Held, Ignore,
+    ListenerWhy, OnLeave, OnLeaveWhy, PinHeld, Request, SharedTallies, Tally, TellsTaken,
 };
 use quick_cache_unsync::{Cache, DefaultLifecycle};
 use std::alloc::Global;
@@ -12,6 +12,7 @@ use std::ops::Range;
 use std::process::Abort;
 use std::rc::Rc;
 use std::sync::Arc;
+use std::sync::atomic::{AtomicU64, Ordering};
 use test_tools::{expect_eq, expect_ok};
 
 /// Numbers that threads hold, each of which stays while one of them does.
@@ -87,6 +88,26 @@ fn a_put_tells_why_each_pair_left(rt: HostRuntime) {
     ] {
         last.set(None);
         expect_eq!(rt; (cache.put(key, text), last.get()), (Ok(()), left));
+    }
+}
+
+#[test]
+fn a_write_that_drops_its_state_is_seen(rt: HostRuntime) {
+    let lost = expect_ok!(rt; Arc::new(rt.alloc(), AtomicU64::new(0)));
+    let listener = CollectOrCount {
+        lost: expect_ok!(rt; lost.clone()),
+    };
+    let builder = DefaultHashBuilder::new();
+    let mut cache =
+        expect_ok!(rt; Cache::with(rt.alloc(), 2, 2, UnitWeighter, builder, OnLeave(listener)));
+    let mut left = Collected::with(Vec::new(rt.alloc()));
+    for (key, is_told, count) in [(1, false, 0), (2, true, 0), (3, true, 0), (4, false, 1)] {
+        let is_in = if is_told {
+            cache.insert_with_lifecycle(key, 7, &mut left).is_ok()
+        } else {
+            cache.insert(key, 7).is_ok()
+        };
+        expect_eq!(rt; (is_in, lost.load(Ordering::Relaxed)), (true, count));
     }
 }
 
