@@ -18,7 +18,8 @@ use std::alloc::Allocator;
 pub trait TellsTaken<K: Eq + Drop, V: Drop>: Lifecycle<K, V> {
     /// From a state, at a pair that was taken out for that cause, to the state after: anything,
     /// where the lifecycle says no more.
-    ghost tells_taken: { Self → Self.RequestState → K → V → Cause → Self.RequestState → Type 0 } = { λ _ _ _ _ _ _. Unit {0} };
+    ghost tells_taken: { Self → Self.RequestState → K → V → Cause → Self.RequestState
+        → Type 0 } = { λ _ _ _ _ _ _. Unit {0} };
 
     /// Takes a pair that the caller took out.
     fn tell_taken(&self, state: &mut Self::RequestState, key: K, val: V, cause: Cause)
