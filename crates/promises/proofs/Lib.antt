@@ -9,5 +9,6 @@ mod RetainLemmas
 mod RunLemmas
 mod ServedLemmas
 mod SharedLemmas
+mod TakenLemmas
 mod ToldLemmas
 mod TurnLemmas

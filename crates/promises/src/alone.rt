@@ -13,4 +13,5 @@ pub mod room;
 pub mod runs;
 pub mod saved;
 pub mod served;
+pub mod taken;
 pub mod weighed;

@@ -4,3 +4,4 @@ pub mod Causes
 pub mod Requests
 pub mod CauseLaws
 pub mod Tallies
+pub mod Taken

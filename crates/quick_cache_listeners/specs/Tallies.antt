@@ -16,6 +16,10 @@ tally_of Cause.EvictedHot tallies = tallies.evicted_hot
 tally_of Cause.EvictedCold tallies = tallies.evicted_cold
 tally_of Cause.Replaced tallies = tallies.replaced
 tally_of Cause.TurnedAway tallies = tallies.turned_away
+tally_of Cause.Expired tallies = tallies.expired
+tally_of Cause.Removed tallies = tallies.removed
+tally_of Cause.Cleared tallies = tallies.cleared
+tally_of Cause.Retained tallies = tallies.retained
 
 -- one pair more, of that weight
 abbrev pub with_pair : (weight : ℕ) → Tally → Tally
@@ -34,6 +38,14 @@ counted Cause.Replaced weight tallies =
     record tallies { replaced = with_pair weight tallies.replaced }
 counted Cause.TurnedAway weight tallies =
     record tallies { turned_away = with_pair weight tallies.turned_away }
+counted Cause.Expired weight tallies =
+    record tallies { expired = with_pair weight tallies.expired }
+counted Cause.Removed weight tallies =
+    record tallies { removed = with_pair weight tallies.removed }
+counted Cause.Cleared weight tallies =
+    record tallies { cleared = with_pair weight tallies.cleared }
+counted Cause.Retained weight tallies =
+    record tallies { retained = with_pair weight tallies.retained }
 
 module _ {K V S : Type 0} where
   -- `before_evict` is noted, nothing is counted, and the inner hook does what it does

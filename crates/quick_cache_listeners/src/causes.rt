@@ -4,4 +4,5 @@ pub mod counted;
 pub mod counted_by_threads;
 pub mod laws;
 pub mod listener;
+pub mod taken;
 pub mod tallies;

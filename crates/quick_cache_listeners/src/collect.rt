@@ -6,7 +6,10 @@ ghost use Rattle.quick_cache_listeners.specs.Kept.{Keeps};
 use crate::causes::cause::Cause;
 use crate::causes::listener::ListenerWhy;
 use crate::listener::Listener;
+use std::alloc::{Allocator, Global};
 use std::marker::Model;
+use std::sync::Arc;
+use std::sync::atomic::{AtomicU64, Ordering};
 
 /// The pairs that left in a call, in the order in which they left.
 ///
@@ -118,6 +121,46 @@ impl<K: Drop, V: Drop> Listener<K, V> for Collect {
 /// Keeps what leaves with its cause, as `(key, (value, cause))`: a closure that `each` is handed is
 /// told of it behind the call, where no lock is held.
 impl<K: Drop, V: Drop> ListenerWhy<K, V> for Collect {
+    type State = Collected<K, (V, Cause)>;
+
+    ghost tells = { λ _ old key value cause new. Keeps old key (value, cause) new };
+
+    fn tell(&self, state: &mut Collected<K, (V, Cause)>, key: K, val: V, cause: Cause) {
+        Listener::tell(self, state, key, (val, cause));
+    }
+}
+
+/// Keeps what leaves as [`Collect`] does, and counts for all calls together what was lost. So a write
+/// that was handed no list, as `insert` in the place of `insert_with_lifecycle`, is seen: the count
+/// is no longer 0. A clone counts into the same counter.
+#[derive(Clone, Drop)]
+pub struct CollectOrCount<A: Allocator = Global> {
+    /// How many pairs were dropped, since there was no list, or no memory for one more.
+    pub lost: Arc<AtomicU64, A>,
+}
+
+impl<A: Allocator> CollectOrCount<A> {
+    // Counts a pair where more are lost than before.
+    fn count(&self, before: u64, after: u64) {
+        if before != after {
+            self.lost.fetch_add(1, Ordering::Relaxed);
+        }
+    }
+}
+
+impl<K: Drop, V: Drop, A: Allocator> Listener<K, V> for CollectOrCount<A> {
+    type State = Collected<K, V>;
+
+    ghost tells = { λ _. Keeps };
+
+    fn tell(&self, state: &mut Collected<K, V>, key: K, val: V) {
+        let before = state.lost();
+        Listener::tell(&Collect, state, key, val);
+        self.count(before, state.lost());
+    }
+}
+
+impl<K: Drop, V: Drop, A: Allocator> ListenerWhy<K, V> for CollectOrCount<A> {
     type State = Collected<K, (V, Cause)>;
 
     ghost tells = { λ _ old key value cause new. Keeps old key (value, cause) new };

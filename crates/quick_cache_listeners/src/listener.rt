@@ -18,6 +18,17 @@ pub trait Listener<K, V>: Drop {
         ensures { tells self.now state.old key val state.new };
 }
 
+/// Drops what leaves: `OnLeave(Ignore)` is a lifecycle that does nothing, for another one to stand
+/// on.
+#[derive(Debug, Clone, Default, Drop)]
+pub struct Ignore;
+
+impl<K: Drop, V: Drop> Listener<K, V> for Ignore {
+    type State = ();
+
+    fn tell(&self, _state: &mut (), _key: K, _val: V) {}
+}
+
 /// The lifecycle that pins nothing, leaves each victim's value as it is, and hands each pair that
 /// leaves to its listener, from whichever ring.
 #[derive(Debug, Clone, Default, Drop)]

@@ -2,8 +2,8 @@
 //! and counts.
 use quick_cache_base::{DefaultHashBuilder, UnitWeighter};
 use quick_cache_listeners::{
-    ByLength, Cause, Collect, Collected, Held, ListenerWhy, OnLeave, OnLeaveWhy, PinHeld,
-    SharedTallies, Tally,
+    ByLength, Cause, Collect, CollectOrCount, Collected, Counted, Counts, Held, Ignore,
+    ListenerWhy, OnLeave, OnLeaveWhy, PinHeld, Request, SharedTallies, Tally, TellsTaken,
 };
 use quick_cache_unsync::{Cache, DefaultLifecycle};
 use std::alloc::Global;
@@ -12,6 +12,7 @@ use std::ops::Range;
 use std::process::Abort;
 use std::rc::Rc;
 use std::sync::Arc;
+use std::sync::atomic::{AtomicU64, Ordering};
 use test_tools::{expect_eq, expect_ok};
 
 /// Numbers that threads hold, each of which stays while one of them does.
@@ -91,6 +92,64 @@ fn a_put_tells_why_each_pair_left(rt: HostRuntime) {
 }
 
 #[test]
+fn a_write_that_drops_its_state_is_seen(rt: HostRuntime) {
+    let lost = expect_ok!(rt; Arc::new(rt.alloc(), AtomicU64::new(0)));
+    let listener = CollectOrCount {
+        lost: expect_ok!(rt; lost.clone()),
+    };
+    let builder = DefaultHashBuilder::new();
+    let mut cache =
+        expect_ok!(rt; Cache::with(rt.alloc(), 2, 2, UnitWeighter, builder, OnLeave(listener)));
+    let mut left = Collected::with(Vec::new(rt.alloc()));
+    for (key, is_told, count) in [(1, false, 0), (2, true, 0), (3, true, 0), (4, false, 1)] {
+        let is_in = if is_told {
+            cache.insert_with_lifecycle(key, 7, &mut left).is_ok()
+        } else {
+            cache.insert(key, 7).is_ok()
+        };
+        expect_eq!(rt; (is_in, lost.load(Ordering::Relaxed)), (true, count));
+    }
+}
+
+/// Counts what leaves, by the length of its text, and does nothing else.
+const COUNTED: Counted<ByLength, OnLeave<Ignore>> = Counted(ByLength, OnLeave(Ignore));
+
+#[test]
+fn what_the_caller_takes_out_is_counted_by_its_cause(rt: HostRuntime) {
+    let builder = DefaultHashBuilder::new();
+    let mut cache = expect_ok!(rt; Cache::with(rt.alloc(), 10, 100, ByLength, builder, COUNTED));
+    for (key, text) in [
+        (1, "one"),
+        (2, "three"),
+        (3, "fourth"),
+        (4, "seventh"),
+        (5, "eleventh"),
+    ] {
+        expect_eq!(rt; cache.put(key, text), Ok(()));
+    }
+    let mut told: Request<Counts<()>> = Request::default();
+    for key in [1, 1] {
+        COUNTED.tell_each_taken(&mut told, cache.remove(&key).into_iter(), Cause::Removed);
+    }
+    for key in [2, 3] {
+        let taken = cache.remove_if(&key, |text| text.len() == 6);
+        COUNTED.tell_each_taken(&mut told, taken.into_iter(), Cause::Retained);
+    }
+    COUNTED.tell_each_taken(&mut told, cache.drain(), Cause::Cleared);
+    COUNTED.tell_taken(&mut told, 6, "nine", Cause::Expired);
+    for (cause, pairs, weight) in [
+        (Cause::Removed, 1, 3),
+        (Cause::Retained, 1, 6),
+        (Cause::Cleared, 3, 20),
+        (Cause::Expired, 1, 4),
+        (Cause::Replaced, 0, 0),
+    ] {
+        expect_eq!(rt; told.state.tallies.of(cause), Tally { pairs, weight });
+    }
+    expect_eq!(rt; cache.len(), 0);
+}
+
+#[test]
 fn what_leaves_without_a_list_is_lost(rt: HostRuntime) {
     let builder = DefaultHashBuilder::new();
     let mut cache =
@@ -111,6 +170,10 @@ fn what_threads_count_is_told_by_its_cause(rt: HostRuntime) {
         (Cause::Replaced, 30),
         (Cause::TurnedAway, 40),
         (Cause::EvictedCold, 50),
+        (Cause::Expired, 60),
+        (Cause::Removed, 70),
+        (Cause::Cleared, 80),
+        (Cause::Retained, 90),
     ] {
         tallies.count(cause, weight);
     }
@@ -120,6 +183,10 @@ fn what_threads_count_is_told_by_its_cause(rt: HostRuntime) {
         (Cause::EvictedCold, 2, 70),
         (Cause::Replaced, 1, 30),
         (Cause::TurnedAway, 1, 40),
+        (Cause::Expired, 1, 60),
+        (Cause::Removed, 1, 70),
+        (Cause::Cleared, 1, 80),
+        (Cause::Retained, 1, 90),
     ] {
         expect_eq!(rt; seen.of(cause), Tally { pairs, weight });
     }

@@ -66,6 +66,8 @@ fn a_handle_weighs_what_it_holds(rt: HostRuntime) {
         alone.length(),
     ];
     expect_eq!(rt; sizes, [4, 4, 100, 4]);
+    let measured = WithBytes::measured(alone, |text: &Rc<&str>| text.length().wrapping_add(3));
+    expect_eq!(rt; (measured.byte_count(), measured.is_held()), (7, false));
     let other = expect_ok!(rt; shared.clone());
     let nested = WithBytes::new(other, 3);
     expect_eq!(rt; (nested.is_held(), nested.byte_count()), (true, 3));

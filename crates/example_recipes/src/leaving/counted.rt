@@ -1,22 +1,27 @@
 //! Counts of what left a cache, by its cause and with its weight.
-use quick_cache_listeners::{ByLength, Counted, Counts, Request};
-use quick_cache_unsync::{Cache, DefaultHashBuilder, DefaultLifecycle, Refusal};
+use quick_cache_listeners::{
+    ByLength, Cause, Counted, Counts, Ignore, OnLeave, Request, TellsTaken,
+};
+use quick_cache_unsync::{Cache, DefaultHashBuilder, Refusal};
 use std::alloc::Global;
 
-/// Writes these texts into a cache for so many bytes, and counts all that leave.
+/// Counts what leaves, by the length of its text, and does nothing else.
+const COUNTED: Counted<ByLength, OnLeave<Ignore>> = Counted(ByLength, OnLeave(Ignore));
+
+/// Writes these texts into a cache for so many bytes, takes out what is there in the end, and counts
+/// all that left.
 pub fn write_and_count(
     alloc: Global,
     bytes: u64,
     texts: &[(u64, &'static str)],
 ) -> Result<Request<Counts<()>>, Refusal> {
-    let lifecycle = Counted(ByLength, DefaultLifecycle::new());
     let mut cache = Cache::with(
         alloc,
         10,
         bytes,
         ByLength,
         DefaultHashBuilder::new(),
-        lifecycle,
+        COUNTED,
     )?;
     let mut told = Request::default();
     for (key, text) in texts {
@@ -25,13 +30,13 @@ pub fn write_and_count(
             return Err(refusal);
         }
     }
+    COUNTED.tell_each_taken(&mut told, cache.drain(), Cause::Cleared);
     Ok(told)
 }
 
 #[cfg(test)]
 mod tests {
     use super::*;
-    use quick_cache_listeners::Cause;
     use test_tools::{expect_eq, expect_ok};
 
     #[test]
@@ -51,6 +56,7 @@ mod tests {
             (Cause::TurnedAway, 0, 0),
             (Cause::EvictedHot, 1, 5),
             (Cause::EvictedCold, 1, 13),
+            (Cause::Cleared, 2, 7),
         ] {
             let tally = told.state.tallies.of(cause);
             expect_eq!(rt; (tally.pairs, tally.weight), (pairs, weight));

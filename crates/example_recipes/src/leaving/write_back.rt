@@ -17,30 +17,29 @@ pub struct Block {
 /// A block with its weight. While somebody holds a handle beside the cache's, it stays in memory.
 pub type Handle = Arc<WithBytes<Block>>;
 
-/// Blocks in memory by their numbers.
-type Blocks = Cache<u64, Handle, ByBytes, DefaultHashBuilder, PinHeld<OnLeave<Collect>>>;
-
-/// Blocks that were written, by their numbers.
+/// What was written, by the numbers of the blocks.
 type Disk = BTreeMap<u64, Vec<u8>>;
 
-/// Blocks in memory, above those on a disk. What comes in comes under the lock of the disk, and the
-/// dirty blocks that leave for it are written before the lock is let go. So who does not find a
-/// block in memory finds it on the disk as it was when it left.
+/// Blocks in memory by their numbers, above those on a disk. What comes in comes under the lock of
+/// the disk, and the dirty blocks that leave for it are written before the lock is let go. So who
+/// does not find a block in memory finds it on the disk as it was when it left.
 #[derive(Drop)]
 pub struct Blockstore {
     alloc: Global,
-    blocks: Blocks,
+    blocks: Cache<u64, Handle, ByBytes, DefaultHashBuilder, PinHeld<OnLeave<Collect>>>,
     disk: Mutex<Disk>,
 }
 
 impl Blockstore {
     /// A store that keeps blocks of so many bytes in memory, with 80 more for each.
     pub fn new(alloc: Global, bytes: u64) -> io::Result<Self> {
-        let (weigher, pins) = (ByBytes::with_overhead(80), PinHeld(OnLeave(Collect)));
+        let (by, pins) = (ByBytes::with_overhead(80), PinHeld(OnLeave(Collect)));
+        let blocks = Cache::with(alloc, 100, bytes, by, DefaultHashBuilder::new(), pins)?;
+        let disk = Mutex::new(BTreeMap::new(alloc));
         Ok(Blockstore {
             alloc,
-            blocks: Cache::with(alloc, 100, bytes, weigher, DefaultHashBuilder::new(), pins)?,
-            disk: Mutex::new(BTreeMap::new(alloc)),
+            blocks,
+            disk,
         })
     }
 
@@ -68,53 +67,41 @@ impl Blockstore {
         self.bring(rt, &mut *self.disk.lock(rt), number, block)
     }
 
-    /// Writes to the disk what is dirty in memory, where it stays.
-    pub fn save<R: Wait>(&self, rt: &R) -> io::Result<()> {
+    /// Takes all blocks out of memory, and writes those that are dirty.
+    pub fn close<R: Wait>(&self, rt: &R) -> io::Result<()> {
         let mut disk = self.disk.lock(rt);
-        let mut blocks = self.blocks.iter(rt);
-        for _ in rt.forever() {
-            let Some(step) = blocks.next() else {
-                break;
-            };
-            let (number, block) = step?;
-            save_block(&mut disk, number, &block)?;
+        for (number, block) in self.blocks.drain(rt) {
+            save(&mut disk, number, &block)?;
         }
         Ok(())
     }
 
-    // A block that can be shared, with its weight.
+    // A block that can be shared, and weighs its data.
     fn block(&self, data: Vec<u8>, is_dirty: bool) -> io::Result<Handle> {
-        let bytes = data.len() as u64;
-        Ok(Arc::new(self.alloc, WithBytes::new(Block { data, is_dirty }, bytes))?)
+        let block = WithBytes::measured(Block { data, is_dirty }, |block: &Block| {
+            block.data.len() as u64
+        });
+        Ok(Arc::new(self.alloc, block)?)
     }
 
-    // Takes a block into memory, and saves those that leave for it, by whatever cause: victims, an
-    // older block of the number, or the block itself, where it is too heavy.
-    fn bring<R: Wait>(
-        &self,
-        rt: &R,
-        disk: &mut Disk,
-        number: u64,
-        block: Handle,
-    ) -> io::Result<()> {
+    // Takes a block into memory, and saves what leaves for it, by whatever cause: victims, an older
+    // block of the number, or the block itself, where it is too heavy.
+    fn bring(&self, rt: &impl Wait, disk: &mut Disk, key: u64, block: Handle) -> io::Result<()> {
         let mut left = Collected::with(Vec::new(self.alloc));
-        let brought = self
-            .blocks
-            .insert_with_lifecycle(rt, number, block, &mut left);
+        let brought = self.blocks.insert_with_lifecycle(rt, key, block, &mut left);
         let is_whole = brought.is_ok() && left.lost() == 0;
         for (number, block) in left.into_pairs().unwrap_or(Vec::new(self.alloc)) {
-            save_block(disk, number, &block)?;
+            save(disk, number, &block)?;
         }
-        if is_whole {
-            Ok(())
-        } else {
-            Err(io::Error::from(ErrorKind::OutOfMemory))
+        if !is_whole {
+            return Err(io::Error::from(ErrorKind::OutOfMemory));
         }
+        Ok(())
     }
 }
 
 // Writes a block to the disk, where it is dirty.
-fn save_block(disk: &mut Disk, number: u64, block: &Handle) -> io::Result<()> {
+fn save(disk: &mut Disk, number: u64, block: &Handle) -> io::Result<()> {
     if block.is_dirty {
         disk.insert(number, block.data.clone()?)?;
     }
@@ -172,7 +159,7 @@ mod tests {
         for right in used {
             expect_eq!(rt; expect_ok!(rt; right), 100);
         }
-        expect_ok!(rt; store.save(&rt));
+        expect_ok!(rt; store.close(&rt));
         let disk = store.disk.lock(&rt);
         expect_eq!(rt; disk.len(), 80);
         for (number, data) in disk.iter() {

@@ -47,6 +47,15 @@ pub fn measure_what_is_held(number: &u64, text: &Rc<&'static str>) -> u64
     ByLength.weight(number, text)
 }
 
+/// A value weighs what its closure answered.
+pub fn measure_twice(text: &'static str) -> WithBytes<&'static str>
+    requires short { length text.now < 2 ^ 32 }
+    ensures bytes { result.bytes ≡ length text.now + length text.now }
+    ensures same { result.value.now ≡ text.now }
+{
+    WithBytes::measured(text, |text: &&str| 2 * (text.len() as u64))
+}
+
 /// Why a pair left is kept beside its value.
 pub fn keep_why_it_left(left: &mut Request<Collected<u64, (u64, Cause)>>, key: u64, value: u64)
     requires victim { left.old.stage ≡ Stage.Armed }

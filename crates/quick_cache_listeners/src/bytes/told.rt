@@ -1,12 +1,14 @@
 //! A value with its size beside it.
 ghost use Rattle.std.specs.Prelude.{◌≡◌};
+ghost use Rattle.std.specs.Fn.{FnOnceReturnsAt};
 
 use crate::bytes::HasBytes;
 use crate::pins::Held;
 use std::ops::Deref;
 
-/// A value and its size, as who puts it tells it: for a type that is not `HasBytes`, or whose size
-/// takes long to find. The size takes 8 bytes of each entry, and is believed.
+/// A value and its size, as who puts it tells it, or as a closure measures it once: for a type that
+/// is not `HasBytes`, or whose size takes long to find. The size takes 8 bytes of each entry, and is
+/// believed.
 #[derive(Debug, Clone, PartialEq, Eq, Drop)]
 pub struct WithBytes<V> {
     /// The value.
@@ -20,6 +22,16 @@ impl<V> WithBytes<V> {
     pub fn new(value: V, bytes: u64) -> Self
         ensures { result ≡ record { value = value; bytes = bytes } }
     {
+        WithBytes { value, bytes }
+    }
+
+    /// A value of the size that the closure answers.
+    pub fn measured<F: FnOnce(&V) -> u64>(value: V, measure: F) -> Self
+        requires callable { F.IsAlwaysCallable measure }
+        ensures value { result.value ≡ value }
+        ensures bytes { FnOnceReturnsAt F.FnOnce measure value result.bytes }
+    {
+        let bytes = measure(&value);
         WithBytes { value, bytes }
     }
 }

@@ -35,6 +35,14 @@ pub struct Tallies {
     pub replaced: Tally,
     /// Pairs that were too heavy to come in.
     pub turned_away: Tally,
+    /// Pairs whose life was over, as who took them out tells.
+    pub expired: Tally,
+    /// Pairs that were removed by their keys, as who took them out tells.
+    pub removed: Tally,
+    /// Pairs that were taken out together, as who took them out tells.
+    pub cleared: Tally,
+    /// Pairs that a test did not retain, as who took them out tells.
+    pub retained: Tally,
 }
 
 impl Tallies {
@@ -47,6 +55,10 @@ impl Tallies {
             Cause::EvictedCold => self.evicted_cold,
             Cause::Replaced => self.replaced,
             Cause::TurnedAway => self.turned_away,
+            Cause::Expired => self.expired,
+            Cause::Removed => self.removed,
+            Cause::Cleared => self.cleared,
+            Cause::Retained => self.retained,
         }
     }
 
@@ -59,6 +71,10 @@ impl Tallies {
             Cause::EvictedCold => self.evicted_cold.count(weight),
             Cause::Replaced => self.replaced.count(weight),
             Cause::TurnedAway => self.turned_away.count(weight),
+            Cause::Expired => self.expired.count(weight),
+            Cause::Removed => self.removed.count(weight),
+            Cause::Cleared => self.cleared.count(weight),
+            Cause::Retained => self.retained.count(weight),
         }
     }
 }
@@ -100,6 +116,10 @@ pub struct SharedTallies {
     evicted_cold: SharedTally,
     replaced: SharedTally,
     turned_away: SharedTally,
+    expired: SharedTally,
+    removed: SharedTally,
+    cleared: SharedTally,
+    retained: SharedTally,
 }
 
 impl SharedTallies {
@@ -110,6 +130,10 @@ impl SharedTallies {
             evicted_cold: SharedTally::new(),
             replaced: SharedTally::new(),
             turned_away: SharedTally::new(),
+            expired: SharedTally::new(),
+            removed: SharedTally::new(),
+            cleared: SharedTally::new(),
+            retained: SharedTally::new(),
         }
     }
 
@@ -120,6 +144,10 @@ impl SharedTallies {
             evicted_cold: self.evicted_cold.tally(),
             replaced: self.replaced.tally(),
             turned_away: self.turned_away.tally(),
+            expired: self.expired.tally(),
+            removed: self.removed.tally(),
+            cleared: self.cleared.tally(),
+            retained: self.retained.tally(),
         }
     }
 
@@ -130,6 +158,10 @@ impl SharedTallies {
             Cause::EvictedCold => self.evicted_cold.count(weight),
             Cause::Replaced => self.replaced.count(weight),
             Cause::TurnedAway => self.turned_away.count(weight),
+            Cause::Expired => self.expired.count(weight),
+            Cause::Removed => self.removed.count(weight),
+            Cause::Cleared => self.cleared.count(weight),
+            Cause::Retained => self.retained.count(weight),
         }
     }
 }

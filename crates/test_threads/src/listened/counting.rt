@@ -1,6 +1,8 @@
 //! What leaves a shared cache is counted by its cause, by all threads together.
 use quick_cache::{DefaultHashBuilder, Refusal, UnitWeighter, sync};
-use quick_cache_listeners::{ByLength, Cause, CountedByThreads, SharedTallies, Tallies};
+use quick_cache_listeners::{
+    ByLength, Cause, CountedByThreads, Ignore, OnLeave, Request, SharedTallies, Tallies, TellsTaken,
+};
 use std::alloc::Global;
 use std::process::Abort;
 use std::sync::{Arc, Wait};
@@ -8,20 +10,24 @@ use std::thread::{Threads, join};
 use test_tools::{expect_eq, expect_ok};
 
 /// Counts what leaves a cache of texts, by their length.
-type Counting = CountedByThreads<ByLength, sync::DefaultLifecycle<u64, &'static str>>;
+type Counting = CountedByThreads<ByLength, OnLeave<Ignore>>;
 
 /// A cache of texts that counts what leaves.
 type Texts = sync::Cache<u64, &'static str, ByLength, DefaultHashBuilder, Counting>;
 
-/// A cache for ten bytes of text, which counts into these tallies.
-fn texts(rt: &impl Abort, alloc: Global, tallies: Arc<SharedTallies>) -> Texts {
-    let lifecycle = CountedByThreads {
+/// Counts into these tallies.
+fn counting(tallies: Arc<SharedTallies>) -> Counting {
+    CountedByThreads {
         tallies,
         weigher: ByLength,
-        inner: sync::DefaultLifecycle::new(),
-    };
+        inner: OnLeave(Ignore),
+    }
+}
+
+/// A cache for ten bytes of text, which counts into these tallies.
+fn texts(rt: &impl Abort, alloc: Global, tallies: Arc<SharedTallies>) -> Texts {
     let builder = DefaultHashBuilder::new();
-    expect_ok!(rt; sync::Cache::with(alloc, 10, 10, ByLength, builder, lifecycle))
+    expect_ok!(rt; sync::Cache::with(alloc, 10, 10, ByLength, builder, counting(tallies)))
 }
 
 /// Writes each of these texts.
@@ -90,6 +96,12 @@ fn what_leaves_a_shared_cache_is_counted_by_its_cause(rt: HostRuntime) {
     ];
     expect_eq!(rt; write_all(&rt, &cache, &list), Ok(()));
     expect_eq!(rt; cache.len(&rt), 2);
+    // What is taken out is told to the lifecycle of the same tallies.
+    let lifecycle = counting(expect_ok!(rt; tallies.clone()));
+    let mut state = Request::default();
+    let removed = cache.remove(&rt, &1).into_iter();
+    lifecycle.tell_each_taken(&mut state, removed, Cause::Removed);
+    lifecycle.tell_each_taken(&mut state, cache.drain(&rt), Cause::Cleared);
     let seen = tallies.seen();
     // Nothing stood under the key of what is too heavy, so it is told as a cold victim.
     for (cause, left) in [
@@ -97,6 +109,8 @@ fn what_leaves_a_shared_cache_is_counted_by_its_cause(rt: HostRuntime) {
         (Cause::TurnedAway, (0, 0)),
         (Cause::EvictedHot, (1, 5)),
         (Cause::EvictedCold, (1, 13)),
+        (Cause::Removed, (1, 3)),
+        (Cause::Cleared, (1, 4)),
     ] {
         expect_eq!(rt; of(&seen, cause), left);
     }

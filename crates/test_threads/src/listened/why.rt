@@ -20,18 +20,23 @@ type SharedTexts = sync::Cache<
 >;
 
 /// The texts that are written into ten bytes, in their order.
-const TEXTS: [(u64, &str); 6] = [
+const TEXTS: [(u64, &str); 8] = [
     (1, "four"),
     (2, "five!"),
+    (5, "x"),
+    (5, "much too long"),
     (1, "six"),
     (3, "nine"),
     (1, "much too long"),
     (4, "much too long"),
 ];
 
-/// What they push out: the first text, the second, and the two that are too heavy, of which the one
-/// takes along what stood under its key.
-const CAUSES: [Option<(u64, Cause)>; 6] = [
+/// What they push out: the first text, the second, and the three that are too heavy. Two of those take
+/// along what stood under their keys, which is told as a victim of its ring; the last, under whose
+/// key nothing stood, is told as one of the cold ring.
+const CAUSES: [Option<(u64, Cause)>; 8] = [
+    Some((5, Cause::EvictedCold)),
+    Some((5, Cause::TurnedAway)),
     Some((1, Cause::Replaced)),
     Some((2, Cause::EvictedHot)),
     Some((1, Cause::EvictedHot)),
@@ -41,12 +46,12 @@ const CAUSES: [Option<(u64, Cause)>; 6] = [
 ];
 
 /// The keys and causes of what left, as a closure hears them.
-fn heard(left: Left) -> [Option<(u64, Cause)>; 6] {
-    let mut heard = [None; 6];
+fn heard(left: Left) -> [Option<(u64, Cause)>; 8] {
+    let mut heard = [None; 8];
     let mut count = 0usize;
-    left.state.each(|key: u64, told: (&str, Cause)| {
-        if count < 6 {
-            heard[count] = Some((key, told.1));
+    left.state.each(|key, (_, cause)| {
+        if count < 8 {
+            heard[count] = Some((key, cause));
             count += 1;
         }
     });
