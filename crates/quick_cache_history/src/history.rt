@@ -1,5 +1,4 @@
 //! Histories that begin.
-ghost use Rattle.std.specs.Prelude.{◌≡◌};
 
 use crate::entry::Entry;
 use crate::law::{Law, Opened};

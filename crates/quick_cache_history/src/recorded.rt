@@ -20,7 +20,6 @@ use crate::law::Naming;
 use crate::past::Past;
 use crate::seat::Seat;
 use crossbeam_utils::CachePadded;
-use quick_cache_locked::LockedShard;
 use quick_cache_model::{Equivalent, Lifecycle, Refusal, Weighter, hash_of};
 use quick_cache_shard::Ruled;
 use std::alloc::{Allocator, Global};

@@ -42,7 +42,8 @@ pub fn write_to_its_shard<
     cache.insert(rt, seat, key, value)
 }
 
-/// A removal is told so too, with the pair that it gave.
+/// A removal is told so too, with the pair that it gave: what the shard's calls before it, each made
+/// once, had left under the key.
 pub fn remove_from_its_shard<
     K: Eq + Hash + Drop,
     V: Drop,
@@ -52,10 +53,14 @@ pub fn remove_from_its_shard<
     J: Naming,
     R: Wait,
 >(rt: &R, cache: &Recorded<K, V, We, B, L, J>, seat: &mut Seat<K, V, J>, key: &K) -> Option<(K, V)>
-    ensures { Extends seat.old (Entry.Made seat.old.turn seat.new.turn
+    ensures extends { Extends seat.old (Entry.Made seat.old.turn seat.new.turn
         (shard_of_hash cache.now.shards
         (hash_of B.BuildHasher B.Hasher.Hasher cache.now.builder (K.hash_input key.now)))
         (Call.Remove key.now) (Reply.Pair result)) seat.new }
+    ensures run { AtEnd ⟦<Recorded<K, V, We, B, L, J> as Ruled>⟧.goes L.RequestState.is_default
+        K.eq (shard_of_hash cache.now.shards
+        (hash_of B.BuildHasher B.Hasher.Hasher cache.now.builder (K.hash_input key.now)))
+        seat.new.seen (λ shard. Unit {0}) }
 {
     cache.remove(rt, seat, key)
 }
