@@ -28,10 +28,10 @@ returns-in-Some-clause-fresh g c =
     IfFresh-loaded
     (Answers g.S.Source.gives g.K.PartialEq.eq c.args.key.now
     (g.Li.Lives.life_of c.args.self.now.lives c.args.key.now) c.args.now)
-    c.load.result
+    c.load-loaded.result
     (Answers-called g.S.Source.gives g.K.PartialEq.eq g.met.K.Eq.laws c.args.key.now
     (g.Li.Lives.life_of c.args.self.now.lives c.args.key.now) c.args.now
-    (g.G.FnOnce.post c.args.load tt) c.requires.loads c.load.result c.load.ensures)
+    (g.G.FnOnce.post c.args.load tt) c.requires.loads c.load-loaded.result c.load-loaded.ensures)
     c.renewed.result
     c.renewed.ensures.fresh
 
@@ -41,10 +41,10 @@ returns-in-Guard-clause-fresh g c =
     IfFresh-loaded
     (Answers g.S.Source.gives g.K.PartialEq.eq c.args.key.now
     (g.Li.Lives.life_of c.args.self.now.lives c.args.key.now) c.args.now)
-    c.load-in-Guard.result
+    c.load-loaded-in-Guard.result
     (Answers-called g.S.Source.gives g.K.PartialEq.eq g.met.K.Eq.laws c.args.key.now
     (g.Li.Lives.life_of c.args.self.now.lives c.args.key.now) c.args.now
-    (g.G.FnOnce.post c.args.load tt) c.requires.loads c.load-in-Guard.result
-    c.load-in-Guard.ensures)
+    (g.G.FnOnce.post c.args.load tt) c.requires.loads c.load-loaded-in-Guard.result
+    c.load-loaded-in-Guard.ensures)
     c.fill_with.result
     c.fill_with.ensures.fresh
