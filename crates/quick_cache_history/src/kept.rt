@@ -365,10 +365,11 @@ impl<
         ensures longer { IsErr result → IsPrefix seat.old.seen seat.new.seen }
         ensures refused { IsErr result → seat.new ≡ record seat.old { seen = seat.new.seen } }
     {
-        let found = self.look(rt, head, seat).peek(&key);
-        let Ok(None) = found else {
-            return found;
-        };
+        match self.look(rt, head, seat).peek(&key) {
+            Ok(Some(own)) => return Ok(Some(own)),
+            Ok(None) => {}
+            Err(refusal) => return Err(refusal),
+        }
         match self.insert(rt, head, seat, key, value, state) {
             Ok(()) => Ok(None),
             Err((_, _, refusal)) => Err(refusal),
