@@ -371,8 +371,8 @@ impl<
             Err(refusal) => return Err(refusal),
         }
         match self.insert(rt, head, seat, key, value, state) {
-            Ok(()) => Ok(None),
-            Err((_, _, refusal)) => Err(refusal),
+            Ok(()) => return Ok(None),
+            Err((_, _, refusal)) => return Err(refusal),
         }
     }
 }

@@ -1,14 +1,21 @@
-use Rattle.std.proofs.Common.{rules, ◌≡◌, Ok, Err, None, Some, IsErr, IfOk, IfErr, IfSome, ℕ, ◌+◌, ◌-◌, ◌*◌, ◌<◌, ◌≤◌, length, ◌/◌, ◌%◌, Bool, true, false, nat_eq, nat_lt, List, [], ◌∷◌, ◌++◌, slice_index_or, slice_set, bit_and, bit_or, Fits, w8, w32, w64, Bor, MutBor}
-use mathlib.Core.List.{IsPrefix}
-use Rattle.quick_cache_history.specs.Loads.{Gives, InsertsFirst, Looks}
-use Rattle.quick_cache_history.specs.Rows.{shard_of}
+use Rattle.std.proofs.Common.{Ok, ap}
+use Rattle.quick_cache_history.specs.Loads.{Gives}
+use Rattle.quick_cache_history.proofs.LoadLemmas.{InsertsFirst-after}
 use Rattle.quick_cache_history.proofs.recorded.Recorded.get_or_insert_with.Goals as goal
 
--- src/recorded/loads.rt:83:32
+-- what was found stands there
 pub returns-in-Ok-Some-clause-gives : goal.returns-in-Ok-Some-clause-gives
-returns-in-Ok-Some-clause-gives g c = ?
+returns-in-Ok-Some-clause-gives g c = Gives.stood (record {
+  longer = c.get.ensures.longer;
+  seat = c.get.ensures.seat;
+  shows = rw c.in-Ok-Some.field-0-is at c.in-Ok-Some.ensures.shows;
+})
 
--- src/recorded/loads.rt:61:5
+-- and where nothing was, what was loaded was inserted
 pub returns-in-Ok-None-insert_first-clause-gives :
     goal.returns-in-Ok-None-insert_first-clause-gives
-returns-in-Ok-None-insert_first-clause-gives g c = ?
+returns-in-Ok-None-insert_first-clause-gives g c =
+    Gives.put c.in-Ok.value c.in-Ok.ensures c.in-Ok-clone.ensures.cases
+    (InsertsFirst-after _ _ _ _ _ c.args.key c.args.seat.now c.get.new.seat c.get.ensures.longer
+    c.get.ensures.seat c.in-Ok.value c.insert_first.new.seat
+    (c.in-Ok-None-insert_first.ensures.put (ap Ok c.in-Ok-None-insert_first.field-0-is)))
