@@ -1,6 +1,7 @@
 pub mod Histories
 pub mod KeptShards
 pub mod Laws
+pub mod Loads
 pub mod Openings
 pub mod Pasts
 pub mod Rows

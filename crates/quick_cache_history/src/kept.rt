@@ -1,5 +1,5 @@
 //! A shard behind its lock, with the history that it stands for.
-ghost use Rattle.std.specs.Prelude.{◌≡◌, [], true, is_some, OnOk, OnErr, IfErr};
+ghost use Rattle.std.specs.Prelude.{◌≡◌, ◌++◌, ◌∷◌, [], Ok, None, Some, true, is_some, IsErr, OnOk, OnErr, IfOk, IfErr, IfSome};
 ghost use Rattle.std.specs.Fn.{FnOnceReturnsAt};
 ghost use mathlib.Core.List.{IsPrefix};
 ghost use Rattle.quick_cache_model.specs.declared.calls.call.Call.{Call};
@@ -11,6 +11,7 @@ ghost use Rattle.quick_cache_locked.specs.Peeks.{Peeks};
 ghost use Rattle.quick_cache_history.specs.declared.entry.Entry.{Entry};
 ghost use Rattle.quick_cache_history.specs.Histories.{calls_of, first_in, is_in, is_of, next_of, reply_of_replace};
 ghost use Rattle.quick_cache_history.specs.KeptShards.{HasMade, LeftByAsking, StandsAtEnd};
+ghost use Rattle.quick_cache_history.specs.Loads.{InsertsFirst, Looks};
 ghost use Rattle.quick_cache_history.specs.Seats.{Extends};
 
 use crate::entry::Entry;
@@ -139,6 +140,8 @@ impl<
         requires made { HasMade ⟦<LockedShard<K, V, We, B, L, A> as Ruled>⟧.goes
             L.RequestState.is_default K.eq past.old.shard past.old.log entry.ask shard.now }
         ensures extends { Extends seat.old entry.ask seat.new }
+        ensures one_more { calls_of past.old.shard seat.new.seen
+            ≡ calls_of past.old.shard past.old.log ++ entry.ask ∷ [] }
         ensures turn { seat.new.turn ≡ next }
         ensures knows { past.new ≡ record past.old { log = seat.new.seen } }
         ensures stands { StandsAtEnd ⟦<LockedShard<K, V, We, B, L, A> as Ruled>⟧.goes
@@ -165,6 +168,9 @@ impl<
         requires fresh { L.RequestState.is_default state.old }
         ensures extends { OnOk result (Extends seat.old (Entry.Made seat.old.turn seat.new.turn
             head.now.number (Call.Insert key value) Reply.Done) seat.new) }
+        ensures next { OnOk result (calls_of head.now.number seat.new.seen
+            ≡ calls_of head.now.number self.old.known.log ++ Entry.Made seat.old.turn seat.new.turn
+            head.now.number (Call.Insert key value) Reply.Done ∷ []) }
         ensures run { OnOk result (StandsAtEnd
             ⟦<LockedShard<K, V, We, B, L, A> as Ruled>⟧.goes L.RequestState.is_default K.eq
             head.now.number seat.new.seen self.new.shard) }
@@ -293,6 +299,8 @@ impl<
         ensures run { StandsAtEnd ⟦<LockedShard<K, V, We, B, L, A> as Ruled>⟧.goes
             L.RequestState.is_default K.eq head.now.number seat.new.seen result.now }
         ensures its { result.now ≡ self.now.shard }
+        ensures calls { calls_of head.now.number seat.new.seen
+            ≡ calls_of head.now.number self.now.known.log }
     {
         self.past.meet(rt, head);
         self.past.show(rt, head, seat);
@@ -329,5 +337,42 @@ impl<
     {
         let _ = self.look(rt, head, seat);
         self.shard.get(query)
+    }
+
+    /// Inserts a pair whose value fits its key where nothing stands under the key, with this request
+    /// state. Else it gives a clone of the value that stands there.
+    ///
+    /// # Errors
+    ///
+    /// `Memory` where the clone failed, or why the shard refused the pair: no call was made then.
+    pub(crate) fn insert_first<R: Wait>(
+        &mut self,
+        rt: &R,
+        head: &Head<K, V, J>,
+        seat: &mut Seat<K, V, J>,
+        key: K,
+        value: V,
+        state: &mut L::RequestState,
+    ) -> Result<Option<V>, Refusal>
+        requires fits { L.fits key value }
+        requires fresh { L.RequestState.is_default state.old }
+        ensures stood { IfOk result (λ found. IfSome found (λ own. Looks
+            ⟦<LockedShard<K, V, We, B, L, A> as Ruled>⟧.goes L.RequestState.is_default K.eq
+            V.is_clone head.now.number key (Some own) seat.old seat.new)) }
+        ensures put { result ≡ Ok None → InsertsFirst
+            ⟦<LockedShard<K, V, We, B, L, A> as Ruled>⟧.goes L.RequestState.is_default K.eq
+            V.is_clone head.now.number key value seat.old seat.new }
+        ensures longer { IsErr result → IsPrefix seat.old.seen seat.new.seen }
+        ensures refused { IsErr result → seat.new ≡ record seat.old { seen = seat.new.seen } }
+    {
+        match self.look(rt, head, seat).peek(&key) {
+            Ok(Some(own)) => return Ok(Some(own)),
+            Ok(None) => {}
+            Err(refusal) => return Err(refusal),
+        }
+        match self.insert(rt, head, seat, key, value, state) {
+            Ok(()) => return Ok(None),
+            Err((_, _, refusal)) => return Err(refusal),
+        }
     }
 }

@@ -10,6 +10,7 @@ ghost use Rattle.quick_cache_history.specs.Seats.{Extends};
 ghost use Rattle.quick_cache_history.specs.KeptShards.{AtEnd};
 ghost use Rattle.quick_cache_history.specs.Rows.{shard_of};
 
+mod loads;
 mod looks;
 mod writes;
 

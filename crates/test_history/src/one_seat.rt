@@ -42,12 +42,30 @@ fn row<J: Naming, R: Wait>(rt: &R, numbers: &Numbers<J>) -> Result<Told, Refusal
     Ok((there, [before, numbers.len(rt, &mut seat)], value))
 }
 
-/// The same of a cache of this history.
+/// Loads where nothing stands, where a value does, by a loader that fails, and by one that is late,
+/// since another seat inserts before it ends.
+fn load<J: Naming, R: Wait>(
+    rt: &R,
+    numbers: &Numbers<J>,
+) -> Result<[Result<u64, u64>; 4], Refusal> {
+    let mut seat = numbers.seat();
+    let mut other = numbers.seat();
+    let first = numbers.get_or_insert_with(rt, &mut seat, 1, || -> Result<u64, u64> { Ok(10) })?;
+    let again = numbers.get_or_insert_with(rt, &mut seat, 1, || -> Result<u64, u64> { Ok(11) })?;
+    let failed = numbers.get_or_insert_with(rt, &mut seat, 2, || -> Result<u64, u64> { Err(20) })?;
+    let late = numbers.get_or_insert_with(rt, &mut seat, 2, || -> Result<u64, u64> {
+        drop(numbers.insert(rt, &mut other, 2, 21));
+        Ok(22)
+    })?;
+    Ok([first, again, failed, late])
+}
+
+/// The same, and what is loaded then, of a cache of this history.
 fn told<J: Naming, R: Wait + Abort>(
     rt: &R,
     alloc: Global,
     history: History<u64, u64>,
-) -> Result<Told, Fail>
+) -> Result<(Told, [Result<u64, u64>; 4]), Fail>
     requires { history ≡ J.book }
 {
     let numbers: Numbers<J> = Recorded::new(
@@ -57,7 +75,7 @@ fn told<J: Naming, R: Wait + Abort>(
         DefaultHashBuilder::new(),
         DefaultLifecycle::new(),
     )?;
-    Ok(row(rt, &numbers)?)
+    Ok((row(rt, &numbers)?, load(rt, &numbers)?))
 }
 
 #[test]
@@ -67,7 +85,7 @@ fn each_call_acts_and_answers(rt: HostRuntime) -> Result<(), Fail> {
         .estimated_items_capacity(1000)
         .weight_capacity(1000)
         .shards(4);
-    let (there, lengths, value) = told::<Brand, _>(
+    let ((there, lengths, value), loaded) = told::<Brand, _>(
         &rt,
         rt.alloc(),
         History::new(options.build()?),
@@ -75,5 +93,6 @@ fn each_call_acts_and_answers(rt: HostRuntime) -> Result<(), Fail> {
     expect_eq!(rt; there, [true, true, true, true, true, false]);
     expect_eq!(rt; lengths, [9, 0]);
     expect_eq!(rt; value, Some(100));
+    expect_eq!(rt; loaded, [Ok(10), Ok(10), Err(20), Ok(21)]);
     Ok(())
 }
