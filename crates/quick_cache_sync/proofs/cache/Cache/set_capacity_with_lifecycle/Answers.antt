@@ -21,5 +21,5 @@ pub returns : goal.returns
 returns g c =
     let all : c.loop-index.index ≡ c.args.self.now.shards = search rules in
     let part : c.shard_weight-part.result
-        ≡ shard_part c.args.capacity c.args.self.now.shards = search rules in
+    ≡ shard_part c.args.capacity c.args.self.now.shards = search rules in
     record { sets = rw (all, part) at c.loop-index.invariant }
