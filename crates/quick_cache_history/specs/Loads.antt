@@ -1,5 +1,5 @@
 -- Values that are looked up, and put in where nothing stands.
-use Rattle.std.specs.Prelude.{◌≡◌, ℕ, Bool, List, [], ◌∷◌, ◌++◌, Option, Some, None, Ok}
+use Rattle.std.specs.Prelude.{◌≡◌, ℕ, Bool, [], ◌∷◌, ◌++◌, Option, Some, None, Ok}
 use mathlib.Core.List.{IsPrefix}
 use Rattle.quick_cache_model.specs.declared.calls.call.Call.{Call}
 use Rattle.quick_cache_model.specs.declared.calls.reply.Reply.{Reply}
