@@ -44,7 +44,6 @@ pub(crate) struct Place<
 }
 
 /// A cache of a bounded weight, which threads share by reference, with one history of its calls.
-#[derive(Drop)]
 pub struct Recorded<
     K: Eq + Hash + Drop,
     V: Drop,
@@ -56,6 +55,23 @@ pub struct Recorded<
 > {
     places: Vec<CachePadded<Place<K, V, We, B, L, J, A>>, A>,
     builder: B,
+}
+
+impl<
+    K: Eq + Hash + Drop,
+    V: Drop,
+    We: Weighter<K, V> + Drop,
+    B: BuildHasher + Drop,
+    L: Lifecycle<K, V> + Drop,
+    J: Naming,
+    A: Allocator + Drop,
+> Drop for Recorded<K, V, We, B, L, J, A> {
+    fn drop(self) {
+        let Recorded {
+            places: _places,
+            builder: _builder,
+        } = self;
+    }
 }
 
 impl<

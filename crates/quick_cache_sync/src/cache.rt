@@ -25,7 +25,6 @@ use std::sync::{RwLock, Wait};
 /// shard, makes one step of the shard behind it, and lets the lock go. What the shard was at that
 /// moment nobody knows, so a contract says that the call answers as the step does from some shard
 /// whose state is valid and whose values fit their keys.
-#[derive(Drop)]
 pub struct Cache<
     K: Eq + Hash + Drop,
     V: Drop,
@@ -37,6 +36,23 @@ pub struct Cache<
     // Each is apart from the others, so that threads at two shards never write to one line.
     pub(crate) shards: Vec<CachePadded<RwLock<LockedShard<K, V, We, B, L, A>>>, A>,
     pub(crate) builder: B,
+}
+
+// By hand, so that a crate that names this type proves no walk through its shards anew.
+impl<
+    K: Eq + Hash + Drop,
+    V: Drop,
+    We: Drop,
+    B: BuildHasher + Drop,
+    L: Lifecycle<K, V> + Drop,
+    A: Allocator + Drop,
+> Drop for Cache<K, V, We, B, L, A> {
+    fn drop(self) {
+        let Cache {
+            shards: _shards,
+            builder: _builder,
+        } = self;
+    }
 }
 
 impl<K: Eq + Hash + Drop, V: Drop, We, B: BuildHasher, L: Lifecycle<K, V>, A: Allocator> Model

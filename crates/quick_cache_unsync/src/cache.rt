@@ -30,7 +30,6 @@ use std::hash::{BuildHasher, Hash};
 use std::marker::Model;
 
 /// A cache for one thread, of a bounded weight.
-#[derive(Drop)]
 pub struct Cache<
     K: Eq + Hash,
     V,
@@ -40,6 +39,20 @@ pub struct Cache<
     A: Allocator = Global,
 > {
     pub(crate) shard: CacheShard<K, V, We, B, L, Placeholder, A>,
+}
+
+// By hand, so that a crate that names this type proves no walk through its shard anew.
+impl<
+    K: Eq + Hash + Drop,
+    V: Drop,
+    We: Drop,
+    B: BuildHasher + Drop,
+    L: Drop,
+    A: Allocator + Drop,
+> Drop for Cache<K, V, We, B, L, A> {
+    fn drop(self) {
+        let Cache { shard: _shard } = self;
+    }
 }
 
 impl<K: Eq + Hash, V, We, B: BuildHasher, L, A: Allocator> Model for Cache<K, V, We, B, L, A> {

@@ -34,7 +34,6 @@ pub(crate) type ShardOf<K, V, S, A, We> = LockedShard<
 /// `S` says for contracts what the loader gives, and `Li` how long that lives.
 ///
 /// A moment is any number that its users agree on, as the seconds since some day.
-#[derive(Drop)]
 pub struct ReadThrough<
     K: Eq + Hash + Drop,
     V: Drop,
@@ -57,6 +56,30 @@ pub struct ReadThrough<
     // How often the loader was asked, and how many of these loads failed.
     pub(crate) loads: AtomicU64,
     pub(crate) failed_loads: AtomicU64,
+}
+
+impl<
+    K: Eq + Hash + Drop,
+    V: Drop,
+    F: Drop,
+    S: Source<K, V>,
+    A: Allocator + Drop,
+    Li: Drop,
+    We: Drop,
+> Drop for ReadThrough<K, V, F, S, A, Li, We> {
+    fn drop(self) {
+        let ReadThrough {
+            cache: _cache,
+            lives: _lives,
+            grace: _,
+            retry_after: _,
+            loader: _loader,
+            too_old: _too_old,
+            not_hits: _not_hits,
+            loads: _loads,
+            failed_loads: _failed_loads,
+        } = self;
+    }
 }
 
 impl<K: Eq + Hash + Drop, V: Drop, F, S: Source<K, V>, A: Allocator, Li, We> Model

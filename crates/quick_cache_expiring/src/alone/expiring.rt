@@ -21,7 +21,6 @@ use std::marker::Model;
 ///
 /// A moment is any number that its users agree on, as the seconds since some day. The weigher sees
 /// key and value alone; the lifecycle sees the value with its end.
-#[derive(Drop)]
 pub struct Expiring<
     K: Eq + Hash,
     V,
@@ -37,6 +36,24 @@ pub struct Expiring<
     pub(crate) refused: u64,
     // The token behind which the next purge of some goes on.
     pub(crate) from: Option<Token>,
+}
+
+impl<
+    K: Eq + Hash + Drop,
+    V: Drop,
+    We: Drop,
+    B: BuildHasher + Drop,
+    L: Drop,
+    A: Allocator + Drop,
+> Drop for Expiring<K, V, We, B, L, A> {
+    fn drop(self) {
+        let Expiring {
+            cache: _cache,
+            expired: _,
+            refused: _,
+            from: _,
+        } = self;
+    }
 }
 
 impl<K: Eq + Hash, V, We, B: BuildHasher, L, A: Allocator> Model for Expiring<K, V, We, B, L, A> {
