@@ -2,7 +2,8 @@
 #![allow(dead_code)]
 use std::hash::{BuildHasher, Hasher};
 
-/// Hashes a number by two folded multiplications, as the proved cache does by default.
+/// Hashes a number by two folded multiplications, and a text by one for each sixteen bytes, as the proved
+/// cache does by default.
 #[derive(Clone, Default)]
 pub struct Folding;
 
@@ -23,8 +24,16 @@ impl BuildHasher for Folding {
 
 impl Hasher for Fold {
     fn write(&mut self, bytes: &[u8]) {
-        for byte in bytes {
-            self.write_u64(u64::from(*byte));
+        let word = |at: usize| u64::from_le_bytes(bytes[at..at + 8].try_into().unwrap());
+        let length = bytes.len();
+        if length < 16 {
+            for byte in bytes {
+                self.write_u64(u64::from(*byte));
+            }
+            return;
+        }
+        for at in (0..length - 16).step_by(16).chain([length - 16]) {
+            self.0 = folded(self.0 ^ word(at), 0x9e3779b97f4a7c15 ^ word(at + 8));
         }
     }
 

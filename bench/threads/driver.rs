@@ -19,6 +19,14 @@ fn empty(items: u32) -> Shared {
     Cache::with_options(options, UnitWeighter, Folding, DefaultLifecycle::default())
 }
 
+fn drawn(state: u64) -> u64 {
+    state.wrapping_mul(6364136223846793005).wrapping_add(1442695040888963407)
+}
+
+fn key_below(keys: u64, state: u64) -> u64 {
+    (state >> 32).wrapping_mul(keys) >> 32
+}
+
 /// Calls the function at each index, each in a thread of its own but the last, and adds the answers up.
 fn by_threads(threads: u32, each: impl Fn(u64) -> u64 + Sync) -> u64 {
     std::thread::scope(|scope| {
@@ -49,8 +57,8 @@ fn main() {
             let mut state = index;
             let mut found = 0;
             for _ in 0..part {
-                state = state.wrapping_mul(6364136223846793005).wrapping_add(1442695040888963407);
-                if known.get(&((state >> 32).wrapping_mul(u64::from(items)) >> 32)).is_some() {
+                state = drawn(state);
+                if known.get(&key_below(u64::from(items), state)).is_some() {
                     found += 1;
                 }
             }
@@ -67,7 +75,21 @@ fn main() {
             u64::from(part)
         });
         let inserts = start.elapsed();
-        assert_eq!((found, stored), (u64::from(part * threads), u64::from(part * threads)));
-        println!("{} {}", gets.as_nanos(), inserts.as_nanos());
+        let keys = u64::from(items + items / 2);
+        let start = Instant::now();
+        let made = by_threads(threads, |index| {
+            let mut state = index;
+            for _ in 0..part {
+                state = drawn(state);
+                let key = key_below(keys, state);
+                if full.get(&key).is_none() {
+                    full.insert(key, key);
+                }
+            }
+            u64::from(part)
+        });
+        let both = start.elapsed();
+        assert_eq!([found, stored, made], [u64::from(part * threads); 3]);
+        println!("{} {} {}", gets.as_nanos(), inserts.as_nanos(), both.as_nanos());
     }
 }

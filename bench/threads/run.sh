@@ -31,13 +31,14 @@ awk -v operations="$operations" -v runs="$runs" '
         }
         return list[int((runs + 1) / 2)]
     }
-    { both($2 " " $3 " get " $4, $1, $5); both($2 " " $3 " insert " $4, $1, $6); sizes[$2] }
+    { both($2 " " $3 " get " $4, $1, $5); both($2 " " $3 " insert " $4, $1, $6); both($2 " " $3 " mixed " $4, $1, $7); sizes[$2] }
     END {
         print "| Operation | Items | Threads | Proved | Rust | Ratio |"
         print "|---|---|---|---|---|---|"
-        for (size in sizes) for (name = 0; name < 2; name++) for (count = 1; count <= 4; count *= 2) {
-            kind = size " " count (name ? " insert " : " get ")
+        split("get insert mixed", names)
+        for (size in sizes) for (name = 1; name <= 3; name++) for (count = 1; count <= 4; count *= 2) {
+            kind = size " " count " " names[name] " "
             proved = times[kind "proved"] / operations; rust = times[kind "rust"] / operations
-            printf "| %s | %d | %d | %.1f ns | %.1f ns | %.2f |\n", name ? "insert" : "get", size, count, proved, rust, median(kind)
+            printf "| %s | %d | %d | %.1f ns | %.1f ns | %.2f |\n", names[name], size, count, proved, rust, median(kind)
         }
     }' times

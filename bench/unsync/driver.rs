@@ -23,6 +23,8 @@ enum Mode {
     RemoveAndInsert = 3,
     Bytes = 4,
     Lives = 5,
+    Texts16 = 6,
+    Texts64 = 7,
 }
 
 /// Pseudo-random numbers, by xorshift and a multiplication.
@@ -61,6 +63,19 @@ fn key(index: usize) -> u64 {
     (index as u64).wrapping_mul(0xbf58476d1ce4e5b9).rotate_left(31)
 }
 
+/// Looks up texts of so many bytes by their numbers, among half as many as there are items.
+fn rust_texts(items: usize, keys: &[u64], length: usize) -> u64 {
+    let mut cache: Cache<String, u64, UnitWeighter, Folding> =
+        Cache::with(items, items as u64, UnitWeighter, Folding, Default::default());
+    let text = |number: usize| format!("{number:0length$}");
+    let texts: Vec<String> = (0..items / 2).map(text).collect();
+    for number in 0..items / 2 {
+        cache.insert(text(number), number as u64);
+    }
+    keys.iter().map(|it| u64::from(black_box(cache.get(texts[*it as usize].as_str())).is_some())).sum()
+}
+
+#[inline(never)]
 fn rust_trace(mode: Mode, items: u64, keys: &[u64]) -> u64 {
     let mut cache: Cache<u64, u64, UnitWeighter, Folding> =
         Cache::with(items as usize, items, UnitWeighter, Folding, Default::default());
@@ -103,6 +118,8 @@ fn rust_trace(mode: Mode, items: u64, keys: &[u64]) -> u64 {
             }
             found = cache.memory_used().entries as u64;
         }
+        Mode::Texts16 => return rust_texts(items as usize, keys, 16),
+        Mode::Texts64 => return rust_texts(items as usize, keys, 64),
     }
     found
 }
@@ -179,6 +196,9 @@ fn rows(numbers: &mut Numbers, operations: usize) -> Vec<Row> {
         let growing: Vec<u64> = (0..entries).map(key).chain(fresh(entries)).collect();
         // A third of these keys meet a ghost, once the cache has seen them all.
         let third: Vec<u64> = (0..3 * entries + operations).map(|_| key(numbers.below(entries + entries / 2))).collect();
+        // Each comes back when as many others have come as make it a ghost.
+        let returning: Vec<u64> = (0..3 * entries + operations).map(|at| key(at % (entries + entries / 4))).collect();
+        let numbered: Vec<u64> = (0..entries + operations).map(|_| numbers.below(entries) as u64).collect();
         let mut standing = present.clone();
         let mut changes = present;
         for index in 0..operations / 2 {
@@ -199,6 +219,9 @@ fn rows(numbers: &mut Numbers, operations: usize) -> Vec<Row> {
         row("removal and insert", Mode::RemoveAndInsert, 2 * items, entries, changes);
         row("a third ghosts by `get` and `insert`", Mode::GetAndInsert, items, 3 * entries, third.clone());
         row("a third ghosts by a load", Mode::Load, items, 3 * entries, third);
+        row("keys that return", Mode::GetAndInsert, items, 3 * entries, returning);
+        row("hits by texts of 16 bytes", Mode::Texts16, 2 * items, entries, numbered.clone());
+        row("hits by texts of 64 bytes", Mode::Texts64, 2 * items, entries, numbered);
     }
     for entries in [10_000, 100_000] {
         let keys = numbers.zipf(1_000_000, 0.9, operations);
@@ -222,12 +245,13 @@ fn main() {
     let mut words = std::env::args().skip(1);
     let mut numbers = Numbers(0x9e3779b97f4a7c15);
     match words.next().as_deref() {
-        // The proved cache alone, for a count of instructions: the number of a row, and operations.
-        Some("count") => {
+        // One of the two alone, for a count of instructions: the number of a row, and operations.
+        Some(side @ ("proved" | "rust")) => {
+            let trace = if side == "proved" { proved_trace } else { rust_trace };
             let mut number = || words.next().and_then(|it| it.parse().ok()).expect("a number");
             let (index, operations): (usize, usize) = (number(), number());
             let row = &rows(&mut numbers, operations)[index];
-            println!("{} {} {}", row.name, row.entries, proved_trace(row.mode, row.items, &row.keys));
+            println!("{} {} {}", row.name, row.entries, trace(row.mode, row.items, &row.keys));
         }
         rounds => {
             let rounds = rounds.and_then(|it| it.parse().ok()).unwrap_or(7);

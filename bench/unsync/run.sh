@@ -12,18 +12,21 @@ driver=$here/out/target/release/driver
 if [ -z "$COUNT" ]; then
     exec "$driver" "${2:-7}"
 fi
-# The rows of 10,000 entries: what 100,000 operations more cost, within the library alone.
+# The rows of 10,000 entries: what 100,000 operations more cost, within each cache alone.
 counted() {
-    valgrind --tool=callgrind --toggle-collect=qcbench_trace --callgrind-out-file=/dev/null \
-        "$driver" count "$1" "$2" 2>&1 | awk '/Collected/ { print $4 }'
+    valgrind --tool=callgrind --toggle-collect="$1" --callgrind-out-file=/dev/null "$driver" "$2" "$3" "$4" 2>&1 |
+        awk '/Collected/ { print $4 }'
 }
-echo "| Operation | Instructions |"
-echo "|---|---|"
-for row in 11 12 13 14 15 17 18 19 20 21; do
-    few=$(counted $row 50000)
-    many=$(counted $row 150000)
-    name=$("$driver" count $row 10 | sed 's/ 10000 .*//')
-    each=100000
-    [ $row = 19 ] && each=50000
-    echo "| $name | $(((many - few) / each)) |"
+each() {
+    few=$(counted "$1" "$2" "$3" 50000)
+    many=$(counted "$1" "$2" "$3" 150000)
+    echo $(((many - few) / $4))
+}
+echo "| Operation | Instructions | Rust |"
+echo "|---|---|---|"
+for row in 14 15 16 17 18 20 21 22 23 24 25 26 27; do
+    name=$("$driver" proved $row 10 | sed 's/ 10000 .*//')
+    operations=100000
+    [ $row = 22 ] && operations=50000
+    echo "| $name | $(each qcbench_trace proved $row $operations) | $(each '*rust_trace*' rust $row $operations) |"
 done

@@ -44,11 +44,12 @@ impl Trace {
 }
 
 /// The numbers are those of threads, of operations in all, of items and of rounds. It prints a line
-/// a round: the nanoseconds of all gets, and those of all inserts. A small round prints in place of
-/// the times how many gets found an item.
+/// a round: the nanoseconds of all gets, of all inserts, and of both mixed. A small round prints in
+/// place of the times how many gets found an item.
 ///
 /// All gets are of items that are there, and all inserts are of fresh keys into a cache that is
-/// full. Each thread does its part of them.
+/// full. Mixed, each get is of any of half as many keys again as there are items, and an insert
+/// follows where it finds none. Each thread does its part of them.
 pub fn time<R: Print + Clock + Wait + Threads + Sync>(
     rt: &R,
     alloc: Global,
@@ -97,10 +98,36 @@ pub fn time<R: Print + Clock + Wait + Threads + Sync>(
             },
         )?;
         let inserts = start.elapsed(rt)?;
+        let keys = items.saturating_add(items / 2);
+        let start = Instant::now(rt)?;
+        let made = map_indices(
+            rt,
+            alloc,
+            threads,
+            &|index| {
+                let mut state = index as u64;
+                let mut made = 0u64;
+                for _ in 0..part {
+                    state = drawn(state);
+                    let key = key_below(keys, state);
+                    let found = full.get(rt, &key).unwrap_or(None).is_some();
+                    if found || full.insert(rt, key, key).is_ok() {
+                        made = made.wrapping_add(1);
+                    }
+                }
+                made
+            },
+        )?;
+        let both = start.elapsed(rt)?;
         if trace.is_timed {
-            println!(rt; "{} {}", gets.as_nanos(), inserts.as_nanos())?;
+            println!(rt;
+                "{} {} {}",
+                gets.as_nanos(),
+                inserts.as_nanos(),
+                both.as_nanos()
+            )?;
         } else {
-            println!(rt; "{found:?} found, {stored:?} stored")?;
+            println!(rt; "{found:?} found, {stored:?} stored, {made:?} found or stored")?;
         }
     }
     Ok(())

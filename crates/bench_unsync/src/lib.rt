@@ -5,7 +5,7 @@ ghost use Rattle.std.specs.Prelude.{All, IfOk};
 ghost use Rattle.quick_cache_runs.specs.Asked.{IfAsks};
 
 use quick_cache_expiring::Expiring;
-use quick_cache_model::Refusal;
+use quick_cache_model::{Refusal, Text};
 use quick_cache_runs::{Call, run};
 use quick_cache_unsync::{Cache, NotLoaded};
 use std::alloc::{AllocError, Global};
@@ -115,6 +115,34 @@ fn hits_with_lives(alloc: Global, items: usize, keys: &[u64]) -> Result<u64, Ref
     Ok(cache.stats().hits)
 }
 
+// A number as a text of so many bytes.
+fn text_of(alloc: Global, number: usize, length: usize) -> Result<String, Refusal> {
+    format!(in alloc; "{number:0length$}").map_err(|_| Refusal::Memory)
+}
+
+// Inserts texts of so many bytes, half as many as there are items. Then it looks up the text of each
+// key, which is the number of one of these, and counts the hits.
+fn hits_by_texts(
+    alloc: Global,
+    items: usize,
+    keys: &[u64],
+    length: usize,
+) -> Result<u64, Refusal> {
+    let mut texts = Vec::new(alloc);
+    let mut cache = Cache::new(alloc, items)?;
+    for number in 0..items / 2 {
+        cache.put(text_of(alloc, number, length)?, number as u64)?;
+        let text = text_of(alloc, number, length)?;
+        texts.push(text).map_err(|_| Refusal::Memory)?;
+    }
+    for key in keys {
+        if let Some(text) = texts.get(*key as usize) {
+            let _ = cache.get(&Text(text.as_str()));
+        }
+    }
+    Ok(cache.hits())
+}
+
 /// Goes over the keys with a new cache of so many items, each of weight 1, and answers the hits.
 ///
 /// Mode 0 is a `get` of each key, and an `insert` where that gave nothing. Mode 1 is one
@@ -123,7 +151,8 @@ fn hits_with_lives(alloc: Global, items: usize, keys: &[u64]) -> Result<u64, Ref
 /// look-ups miss, and each call is one that loads. Mode 3 inserts half as many keys as there are
 /// items, then removes the first of each two keys and inserts the second, and answers how many it
 /// removed. Mode 4 inserts each key, and answers the bytes of the entries. Mode 5 is mode 0 over
-/// entries that end. No other mode is built.
+/// entries that end. Modes 6 and 7 look up texts of 16 and of 64 bytes, by their numbers, among half as
+/// many as there are items. No other mode is built.
 #[unsafe(no_mangle)]
 pub extern "C" fn qcbench_trace(alloc: Global, mode: u32, items: u64, keys: &[u64]) -> u64 {
     let answer = match mode {
@@ -133,6 +162,8 @@ pub extern "C" fn qcbench_trace(alloc: Global, mode: u32, items: u64, keys: &[u6
         3 => removals(alloc, items as usize, keys),
         4 => bytes_of_entries(alloc, items as usize, keys),
         5 => hits_with_lives(alloc, items as usize, keys),
+        6 => hits_by_texts(alloc, items as usize, keys, 16),
+        7 => hits_by_texts(alloc, items as usize, keys, 64),
         _ => return NOT_BUILT,
     };
     answer.unwrap_or(REFUSED)
