@@ -8,8 +8,9 @@ mod common;
 use common::{Folding, processor_time};
 
 unsafe extern "C" {
-    /// The proved cache's side: `crates/bench_unsync` says what each mode does and answers.
-    fn qcbench_trace(mode: u32, items: u64, keys: *const u64, length: usize) -> u64;
+    /// The proved cache's side, at two places: `crates/bench_unsync` says what each mode does and answers.
+    fn qcbench_trace_0(mode: u32, items: u64, keys: *const u64, length: usize) -> u64;
+    fn qcbench_trace_32(mode: u32, items: u64, keys: *const u64, length: usize) -> u64;
 }
 
 const SIZES: [usize; 3] = [1_000, 10_000, 100_000];
@@ -26,6 +27,8 @@ enum Mode {
     Texts16 = 6,
     Texts64 = 7,
 }
+
+type Trace = fn(Mode, u64, &[u64]) -> u64;
 
 /// Pseudo-random numbers, by xorshift and a multiplication.
 struct Numbers(u64);
@@ -126,7 +129,12 @@ fn rust_trace(mode: Mode, items: u64, keys: &[u64]) -> u64 {
 
 fn proved_trace(mode: Mode, items: u64, keys: &[u64]) -> u64 {
     // SAFETY: a slice is handed on as its pointer and its length.
-    unsafe { qcbench_trace(mode as u32, items, keys.as_ptr(), keys.len()) }
+    unsafe { qcbench_trace_0(mode as u32, items, keys.as_ptr(), keys.len()) }
+}
+
+fn proved_trace_32(mode: Mode, items: u64, keys: &[u64]) -> u64 {
+    // SAFETY: as above.
+    unsafe { qcbench_trace_32(mode as u32, items, keys.as_ptr(), keys.len()) }
 }
 
 /// Nanoseconds of an operation behind the first `warm` keys, and what was found among these.
@@ -169,9 +177,10 @@ impl Row {
         let mut rust = Vec::new();
         for round in 0..rounds {
             let mut found = [0; 2];
+            let placed: Trace = if round / 2 % 2 == 0 { proved_trace } else { proved_trace_32 };
             for turn in 0..2 {
-                let (times, trace): (_, fn(Mode, u64, &[u64]) -> u64) =
-                    if (round + turn) % 2 == 0 { (&mut proved, proved_trace) } else { (&mut rust, rust_trace) };
+                let (times, trace): (_, Trace) =
+                    if (round + turn) % 2 == 0 { (&mut proved, placed) } else { (&mut rust, rust_trace) };
                 let (time, hits) =
                     timed(|keys| trace(self.mode, self.items, keys), &self.keys, self.warm, self.operations());
                 times.push(time);

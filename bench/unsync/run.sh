@@ -5,11 +5,25 @@
 set -e
 here=$(cd "$(dirname "$0")" && pwd)
 library=$here/../../crates/bench_unsync
+crate=$(cd "$1" && pwd)
 kit=$(dirname "$(rt doc)")
 (cd "$library" && rt lib)
-"$here/../driver.sh" "$here" "$1" "-C link-arg=$library/out/libbench_unsync.a -C link-arg=$kit/c/liblibc_c.a"
+mkdir -p "$here/out"
+cd "$here/out"
+ar x "$library/out/libbench_unsync.a"
+# The library's code at two places in a line of 64 bytes.
+rm -f libplaced.a
+for place in 0 32; do
+    echo "SECTIONS { .text : { . = . + $place; *(.text .text.*) } }" > place.ld
+    ld -r -T place.ld bench_unsync.o -o "cache_$place.o"
+    objcopy --redefine-sym "qcbench_trace=qcbench_trace_$place" --keep-global-symbol="qcbench_trace_$place" \
+        --set-section-alignment .text=64 "cache_$place.o"
+    ar rcs libplaced.a "cache_$place.o"
+done
+"$here/../driver.sh" "$here" "$crate" "-C link-arg=$here/out/libplaced.a -C link-arg=$kit/c/liblibc_c.a"
 driver=$here/out/target/release/driver
 if [ -z "$COUNT" ]; then
+    awk -F ': ' '/^model name/ { print $2 "\n"; exit }' /proc/cpuinfo
     exec "$driver" "${2:-7}"
 fi
 # The rows of 10,000 entries: what 100,000 operations more cost, within each cache alone.
@@ -28,5 +42,5 @@ for row in 14 15 16 17 18 20 21 22 23 24 25 26 27; do
     name=$("$driver" proved $row 10 | sed 's/ 10000 .*//')
     operations=100000
     [ $row = 22 ] && operations=50000
-    echo "| $name | $(each qcbench_trace proved $row $operations) | $(each '*rust_trace*' rust $row $operations) |"
+    echo "| $name | $(each qcbench_trace_0 proved $row $operations) | $(each '*rust_trace*' rust $row $operations) |"
 done
