@@ -1,7 +1,7 @@
 //! Times the cache that threads share of the Rust crate, as `bench_sync threads` times the proved one: the same keys,
 //! the same arguments and the same lines. Both have 16 shards, and hash by a few multiplications.
 use quick_cache::sync::{Cache, DefaultLifecycle};
-use quick_cache::{OptionsBuilder, UnitWeighter};
+use quick_cache::{OptionsBuilder, UnitWeighter, unsync};
 use std::time::Instant;
 
 mod common;
@@ -37,7 +37,29 @@ fn by_threads(threads: u32, each: impl Fn(u64) -> u64 + Sync) -> u64 {
     })
 }
 
+/// Prints the nanoseconds of the longest insert into a cache for one thread that is made for so many items, a line
+/// a round.
+fn time_growth(items: u32, rounds: u32) {
+    for _ in 0..rounds {
+        let mut cache: unsync::Cache<u64, u64, UnitWeighter, Folding> =
+            unsync::Cache::with(items as usize, u64::from(items), UnitWeighter, Folding, Default::default());
+        let mut longest = 0;
+        for key in 0..u64::from(items) {
+            let start = Instant::now();
+            cache.insert(key, key);
+            longest = longest.max(start.elapsed().as_nanos());
+        }
+        println!("{longest}");
+    }
+}
+
 fn main() {
+    let words: Vec<String> = std::env::args().skip(1).collect();
+    if let [first, items, rounds] = &words[..]
+        && first == "growth"
+    {
+        return time_growth(items.parse().unwrap(), rounds.parse().unwrap());
+    }
     let numbers: Vec<u32> = std::env::args().skip(1).map(|word| word.parse().unwrap()).collect();
     let [threads, operations, items, rounds] = numbers[..] else {
         panic!("usage: THREADS OPERATIONS ITEMS ROUNDS");
