@@ -1,8 +1,9 @@
 -- What one who asks for a value is answered.
-use Rattle.std.specs.Prelude.{⊤, ℕ, Bool, true, false, Option, Some, None, Result, Ok, Err}
+use Rattle.std.specs.Prelude.{◌≡◌, ◌⊎◌, ⊤, ℕ, Bool, true, false, Option, Some, None, Result, Ok, Err}
 use Rattle.quick_cache_model.specs.declared.refusal.Refusal.{Refusal}
 pub use Rattle.quick_cache_loading.specs.Waiters.{IsLoadRefusal}
-use Rattle.quick_cache_loading.specs.FromState.{ComesTo, FromState}
+use Rattle.quick_cache_loading.specs.FromState.{ComesTo, FromState, LooksAt}
+use Rattle.quick_cache_loading.specs.declared.waiting.place.Place.{Place}
 use Rattle.quick_cache_loading.specs.declared.waiting.waited.Waited.{Waited}
 use Rattle.quick_cache_loading.specs.declared.waiting.waited.Wants.{Wants}
 use Rattle.quick_cache_guard.specs.declared.results.GuardResult.{GuardResult}
@@ -31,11 +32,44 @@ abbrev pub CameTo : {K V : Type 0} → (shows : V → V → Type 0) → (stands_
 CameTo shows stands_for wants is_over told =
     (ticket : ℕ) × FromState (ComesTo shows stands_for wants ticket is_over (Err told))
 
--- one looks again, or is late, only where it was told so
-abbrev pub IsToldSo : {V G : Type 0} → (Waited V → Type 0) → Option (GuardResult V G) → Type 0
-IsToldSo WasTold None = WasTold Waited.Again
-IsToldSo WasTold (Some GuardResult.Timeout) = WasTold Waited.Timeout
-IsToldSo WasTold (Some _) = ⊤
+-- it came to the state of some placeholder, or looked at one where it had a place, and was told this
+abbrev pub WasTold : {K V : Type 0} → (shows : V → V → Type 0) → (stands_for : K → Bool) → Wants
+    → (is_over : Bool) → Waited V → Type 0
+WasTold shows stands_for wants is_over told = CameTo shows stands_for wants is_over told
+    ⊎ ((place : Place) × FromState (LooksAt shows stands_for wants place is_over (Some told)))
+
+-- so it was at some time of its waits
+abbrev pub WasToldOnce : {K V : Type 0} → (shows : V → V → Type 0) → (stands_for : K → Bool)
+    → Wants → Waited V → Type 0
+WasToldOnce shows stands_for wants told =
+    (is_over : Bool) × WasTold shows stands_for wants is_over told
+
+-- What one is told at a placeholder, what some shard shows, and why one refuses, are the causes of
+-- what one answers who asks for a value.
+module _ {V S : Type 0} (WasTold : Waited V → Type 0) where
+  -- the value was found, or it came to one who waited
+  abbrev pub IsGivenSo : (shows : V → S → Type 0) → V → Type 0
+  IsGivenSo shows value = ((shard : S) × shows value shard) ⊎ WasTold (Waited.Value value)
+
+  -- memory was refused, or a shard or a placeholder refuses it so
+  abbrev pub IsRefusedSo : (refuses : Refusal → S → Type 0) → Refusal → Type 0
+  IsRefusedSo refuses refusal = (refusal ≡ Refusal.Memory) ⊎ ((shard : S) × refuses refusal shard)
+      ⊎ WasTold (Waited.Refused refusal)
+
+  module _ (shows : V → S → Type 0) (refuses : Refusal → S → Type 0) {G : Type 0} where
+    -- one answers, or looks again where nothing is answered, only with its cause
+    abbrev pub HasCause : Option (GuardResult V G) → Type 0
+    HasCause None = WasTold Waited.Again
+    HasCause (Some (GuardResult.Value value)) = IsGivenSo shows value
+    HasCause (Some (GuardResult.Guard guard)) = ⊤
+    HasCause (Some GuardResult.Timeout) = WasTold Waited.Timeout
+    HasCause (Some (GuardResult.Refused refusal)) = IsRefusedSo refuses refusal
+
+    -- the same of one who waits with no limit
+    abbrev pub GivesSo : Result (Result V G) Refusal → Type 0
+    GivesSo (Ok (Ok value)) = IsGivenSo shows value
+    GivesSo (Ok (Err guard)) = ⊤
+    GivesSo (Err refusal) = IsRefusedSo refuses refusal
 
 -- what a future that waits with no limit gives, unless it has to look again
 abbrev pub output_of : {V G : Type 0} → Option (GuardResult V G)

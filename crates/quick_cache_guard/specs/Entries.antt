@@ -5,6 +5,8 @@ use Rattle.quick_cache_loading.specs.declared.waiting.waited.Waited.{Waited}
 use Rattle.quick_cache_guard.specs.declared.results.GuardResult.{GuardResult}
 use Rattle.quick_cache_guard.specs.declared.results.EntryResult.{EntryResult}
 use Rattle.quick_cache_model.specs.declared.calls.entry.EntryAction.{EntryAction}
+use Rattle.quick_cache_model.specs.declared.refusal.Refusal.{Refusal}
+use Rattle.quick_cache_guard.specs.Answers.{IsRefusedSo}
 use Rattle.quick_cache_guard.specs.Acts.{Chooses, KeepsReplaced}
 
 module _ {T K V G : Type 0} where
@@ -49,13 +51,19 @@ IfAnswered (Err (Some answer)) P = P answer
 IfAnswered (Err None) P = ⊤
 IfAnswered (Ok waiting) P = ⊤
 
--- one looks again, or is late, only where it was told so
-abbrev pub IsEntryToldSo : {W T K V G : Type 0} → (Waited V → Type 0)
-    → Result W (Option (EntryResult T K V G)) → Type 0
-IsEntryToldSo WasTold (Ok waiting) = ⊤
-IsEntryToldSo WasTold (Err None) = WasTold Waited.Again
-IsEntryToldSo WasTold (Err (Some EntryResult.Timeout)) = WasTold Waited.Timeout
-IsEntryToldSo WasTold (Err (Some _)) = ⊤
+-- What one is told at a placeholder, and why some shard refuses, are the causes of what one answers
+-- who acts on an entry, and of looking again. The rest is what the callback chose, or a guard.
+module _ {V S : Type 0} (WasTold : Waited V → Type 0) (refuses : Refusal → S → Type 0) where
+  abbrev pub HasEntryCause : {T K G : Type 0} → EntryResult T K V G → Type 0
+  HasEntryCause EntryResult.Timeout = WasTold Waited.Timeout
+  HasEntryCause (EntryResult.Refused refusal) = IsRefusedSo WasTold refuses refusal
+  HasEntryCause _ = ⊤
+
+  -- the same of one who came to the shard
+  abbrev pub CameSo : {W T K G : Type 0} → Result W (Option (EntryResult T K V G)) → Type 0
+  CameSo (Ok waiting) = ⊤
+  CameSo (Err None) = WasTold Waited.Again
+  CameSo (Err (Some answer)) = HasEntryCause answer
 
 -- where the callback was not called, this is true: where one waits, looks again, is too late, or gets
 -- the right to load a key that has no entry

@@ -5,12 +5,8 @@ use Rattle.futures.specs.Task.{Covers, Keeps}
 use Rattle.futures.specs.declared.task.Poll.{Poll}
 use Rattle.futures.specs.declared.task.context.Context.{Context}
 use Rattle.quick_cache_loading.specs.Fitting.{FitsIfClonesDo}
-use Rattle.quick_cache_loading.specs.FromState.{FromState, LooksAt}
-use Rattle.quick_cache_loading.specs.declared.waiting.place.Place.{Place}
-use Rattle.quick_cache_loading.specs.declared.waiting.waited.Waited.{Waited}
-use Rattle.quick_cache_loading.specs.declared.waiting.waited.Wants.{Wants}
 use Rattle.quick_cache_model.specs.declared.refusal.Refusal.{Refusal}
-use Rattle.quick_cache_guard.specs.Answers.{CameTo, IfGiven}
+use Rattle.quick_cache_guard.specs.Answers.{IfGiven}
 use Rattle.quick_cache_guard.specs.declared.stage.Stage.{Stage}
 
 -- its query, once it waits the source by which its placeholder wakes it, and whether it has answered
@@ -41,12 +37,6 @@ module _ {W : Type 0} where
 -- this is the source by which it is woken
 abbrev pub IsSource : Option ℕ → ℕ → Type 0
 IsSource source s = IsSomeAnd source (λ own. s ≡ own)
-
--- it came to the state of some placeholder, or looked at one where it had a place, and was told this
-abbrev pub WasTold : {K V : Type 0} → (shows : V → V → Type 0) → (stands_for : K → Bool) → Wants
-    → Waited V → Type 0
-WasTold shows stands_for wants told = CameTo shows stands_for wants false told
-    ⊎ ((place : Place) × FromState (LooksAt shows stands_for wants place false (Some told)))
 
 -- A future answers once. Before it has answered it is refused only as a load is, and afterwards each
 -- poll is refused by this answer.

@@ -1,6 +1,8 @@
 -- What a contract sees of a future that loads.
 use Rattle.std.specs.Prelude.{◌≡◌, ◌⊎◌, ⊤, Bool, true, false, ℕ, Option, None, IsSome, Result, Ok, Err}
 use Rattle.quick_cache_model.specs.declared.refusal.Refusal.{Refusal}
+use Rattle.quick_cache_loading.specs.declared.waiting.waited.Waited.{Waited}
+use Rattle.quick_cache_guard.specs.Answers.{IsGivenSo, IsRefusedSo}
 use Rattle.quick_cache_guard.specs.Futures.{IsSource, Joining}
 use Rattle.quick_cache_guard.specs.declared.tasks.get_or_insert.Loading.{Loading}
 
@@ -60,3 +62,12 @@ abbrev pub IfLoaded : {V E : Type 0} → (V → Type 0) → (E → Type 0)
 IfLoaded P R (Ok (Ok value)) = P value
 IfLoaded P R (Ok (Err error)) = R error
 IfLoaded P R (Err refusal) = ⊤
+
+-- A value was found, or came to one who waits, or the loader gave it; and a refusal has its cause.
+abbrev pub LoadsSo : {V S E : Type 0} → (WasTold : Waited V → Type 0) → (shows : V → S → Type 0)
+    → (refuses : Refusal → S → Type 0) → (IsLoaded : V → Type 0)
+    → Result (Result V E) Refusal → Type 0
+LoadsSo WasTold shows refuses IsLoaded (Ok (Ok value)) =
+    IsGivenSo WasTold shows value ⊎ IsLoaded value
+LoadsSo WasTold shows refuses IsLoaded (Ok (Err error)) = ⊤
+LoadsSo WasTold shows refuses IsLoaded (Err refusal) = IsRefusedSo WasTold refuses refusal

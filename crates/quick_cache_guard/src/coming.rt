@@ -5,7 +5,7 @@ ghost use Rattle.quick_cache_model.specs.Hashing.{StandsForGiven};
 ghost use Rattle.quick_cache_loading.specs.Waiters.{IsTold, IsWanted};
 ghost use Rattle.quick_cache_loading.specs.Fitting.{FitsIfClonesDo};
 ghost use Rattle.quick_cache_loading.specs.FromState.{FromState, LooksAt};
-ghost use Rattle.quick_cache_guard.specs.Answers.{CameTo, IsAnswered, IsToldSo, answer_of, is_timeout, output_of};
+ghost use Rattle.quick_cache_guard.specs.Answers.{CameTo, HasCause, IsAnswered, WasTold, answer_of, is_timeout, output_of};
 ghost use Rattle.quick_cache_loading.specs.Turns.{IsLater, none_left};
 
 use crate::guard::PlaceholderGuard;
@@ -88,9 +88,10 @@ pub fn come<
     ensures keyed { IfOk result (λ waiting. Q.to_key_gives query.now waiting.key) }
     ensures answers { IfErr result (λ told. IfSome told (IsAnswered
         (FitsIfClonesDo L.fits V.is_clone (Q.equivalent query.now)) (Q.to_key_gives query.now))) }
-    // It looks again, or is late, only where a placeholder's state told it so.
-    ensures cause { IfErr result (IsToldSo
-        (CameTo V.is_clone (Q.equivalent query.now) Wants.Value is_over)) }
+    // It has its cause: what a placeholder's state told, what a shard showed, or why it refused.
+    ensures cause { IfErr result (HasCause
+        (CameTo V.is_clone (Q.equivalent query.now) Wants.Value is_over)
+        (S.shows (Q.equivalent query.now)) (S.refuses (Q.equivalent query.now))) }
     ensures over { is_over ≡ true → IsErr result }
     ensures timely { is_over ≡ false
         → IfErr result (λ told. IfSome told (λ answer. is_timeout answer ≡ false)) }
@@ -138,6 +139,9 @@ pub fn come_and_wait<
     requires stands { StandsForGiven (Q.to_key_gives query.now) (Q.equivalent query.now) }
     ensures answers { IfSome result (IsAnswered
         (FitsIfClonesDo L.fits V.is_clone (Q.equivalent query.now)) (Q.to_key_gives query.now)) }
+    ensures cause { HasCause (WasTold V.is_clone (Q.equivalent query.now) Wants.Value false)
+        (S.shows (Q.equivalent query.now)) (S.refuses (Q.equivalent query.now))
+        result }
     ensures timely { IfSome result (λ answer. is_timeout answer ≡ false) }
 {
     match come(rt, shard, query, false) {

@@ -3,8 +3,8 @@ ghost use Rattle.std.specs.Prelude.{◌≡◌, ◌⊎◌, true, false, Some, Err
 ghost use Rattle.std.specs.Arc.{arc_value};
 ghost use Rattle.quick_cache_model.specs.Hashing.{StandsForGiven};
 ghost use Rattle.futures.specs.Poll.{IfReady, OnPending};
-ghost use Rattle.quick_cache_guard.specs.Answers.{IsAnswered, IsRefusedAsLoad, IsToldSo, is_timeout};
-ghost use Rattle.quick_cache_guard.specs.Futures.{AnswersOnce, GivesFor, IfWaits, IsSource, Registers, WasTold, has_answered, source_of};
+ghost use Rattle.quick_cache_guard.specs.Answers.{GivesSo, HasCause, IsAnswered, IsRefusedAsLoad, WasTold, is_timeout};
+ghost use Rattle.quick_cache_guard.specs.Futures.{AnswersOnce, GivesFor, IfWaits, IsSource, Registers, has_answered, source_of};
 ghost use Rattle.quick_cache_loading.specs.Fitting.{FitsIfClonesDo};
 ghost use Rattle.quick_cache_loading.specs.declared.waiting.waited.Waited.{Waited};
 
@@ -135,9 +135,14 @@ impl<
             result self.new.is_finished }
         ensures registers { Registers (IsSome self.new.source) (IsSource self.new.source) result
             cx.old cx.new }
+        // The answer has its cause: what a placeholder's state told, what a shard showed, or why it
+        // refused.
+        ensures cause { self.old.is_finished ≡ false → IfReady result (GivesSo
+            (WasTold V.is_clone (Q.equivalent self.old.query) Wants.Value false)
+            (S.shows (Q.equivalent self.old.query)) (S.refuses (Q.equivalent self.old.query))) }
         // One that stands nowhere was told to look again.
         ensures again { OnPending result (IsSome self.new.source
-            ⊎ WasTold V.is_clone (Q.equivalent self.old.query) Wants.Value Waited.Again) }
+            ⊎ WasTold V.is_clone (Q.equivalent self.old.query) Wants.Value false Waited.Again) }
         ensures query { self.new.query ≡ self.old.query }
     {
         match replace(&mut self.stage, Stage::Finished) {
@@ -159,9 +164,12 @@ impl<
             self.new.is_finished }
         ensures registers { Registers (IsSome self.new.source) (IsSource self.new.source) result
             cx.old cx.new }
+        ensures cause { IfReady result (GivesSo
+            (WasTold V.is_clone (Q.equivalent self.old.query) Wants.Value false)
+            (S.shows (Q.equivalent self.old.query)) (S.refuses (Q.equivalent self.old.query))) }
         // One that stands nowhere was told to look again.
         ensures again { OnPending result (IsSome self.new.source
-            ⊎ WasTold V.is_clone (Q.equivalent self.old.query) Wants.Value Waited.Again) }
+            ⊎ WasTold V.is_clone (Q.equivalent self.old.query) Wants.Value false Waited.Again) }
         ensures query { self.new.query ≡ self.old.query }
     {
         match look(self.rt, self.shard, self.query) {
@@ -188,9 +196,12 @@ impl<
             self.new.is_finished }
         ensures registers { Registers (IsSome self.new.source) (IsSource self.new.source) result
             cx.old cx.new }
+        ensures cause { IfReady result (GivesSo
+            (WasTold V.is_clone (Q.equivalent self.old.query) Wants.Value false)
+            (S.shows (Q.equivalent self.old.query)) (S.refuses (Q.equivalent self.old.query))) }
         // One that stands nowhere was told to look again.
         ensures again { OnPending result (IsSome self.new.source
-            ⊎ WasTold V.is_clone (Q.equivalent self.old.query) Wants.Value Waited.Again) }
+            ⊎ WasTold V.is_clone (Q.equivalent self.old.query) Wants.Value false Waited.Again) }
         ensures query { self.new.query ≡ self.old.query }
     {
         let Waiting {
@@ -224,8 +235,9 @@ impl<
         requires answers { IfSome told (IsAnswered
             (FitsIfClonesDo L.fits V.is_clone (Q.equivalent self.old.query))
             (Q.to_key_gives self.old.query)) }
-        requires cause { IsToldSo
-            (WasTold V.is_clone (Q.equivalent self.old.query) Wants.Value) told }
+        requires cause { HasCause
+            (WasTold V.is_clone (Q.equivalent self.old.query) Wants.Value false)
+            (S.shows (Q.equivalent self.old.query)) (S.refuses (Q.equivalent self.old.query)) told }
         requires timely { IfSome told (λ answer. is_timeout answer ≡ false) }
         ensures gives { IfReady result (GivesFor L.fits V.is_clone (Q.equivalent self.old.query)
             (Q.to_key_gives self.old.query)) }
@@ -233,9 +245,12 @@ impl<
             self.new.is_finished }
         ensures registers { Registers (IsSome self.new.source) (IsSource self.new.source) result
             cx.old cx.new }
+        ensures cause { IfReady result (GivesSo
+            (WasTold V.is_clone (Q.equivalent self.old.query) Wants.Value false)
+            (S.shows (Q.equivalent self.old.query)) (S.refuses (Q.equivalent self.old.query))) }
         // One that stands nowhere was told to look again.
         ensures again { OnPending result (IsSome self.new.source
-            ⊎ WasTold V.is_clone (Q.equivalent self.old.query) Wants.Value Waited.Again) }
+            ⊎ WasTold V.is_clone (Q.equivalent self.old.query) Wants.Value false Waited.Again) }
         ensures query { self.new.query ≡ self.old.query }
     {
         let Some(output) = output(told) else {

@@ -1,9 +1,9 @@
 //! A value, or the guard of a key that is absent, for a thread that waits where another loads it.
-ghost use Rattle.std.specs.Prelude.{◌≡◌, true, false, None};
+ghost use Rattle.std.specs.Prelude.{◌≡◌, true, false, Some, None};
 ghost use Rattle.quick_cache_model.specs.Hashing.{StandsForGiven};
 ghost use Rattle.quick_cache_loading.specs.Fitting.{FitsIfClonesDo};
 ghost use Rattle.quick_cache_loading.specs.Turns.{IsLater, none_left};
-ghost use Rattle.quick_cache_guard.specs.Answers.{IfGiven, IsAnswered, IsRefusedAsLoad, is_timeout};
+ghost use Rattle.quick_cache_guard.specs.Answers.{GivesSo, HasCause, IfGiven, IsAnswered, IsRefusedAsLoad, WasTold, WasToldOnce, is_timeout};
 
 use crate::coming::{come, come_and_wait, output, wait_at};
 use crate::guard::PlaceholderGuard;
@@ -42,6 +42,10 @@ impl<
         // is for a key that the query becomes. It is refused as a load is.
         ensures answers { IsAnswered (FitsIfClonesDo L.fits V.is_clone (Q.equivalent query.now))
             (Q.to_key_gives query.now) result }
+        // The answer has its cause: what a placeholder's state told, what a shard showed, or why it
+        // refused.
+        ensures cause { HasCause (WasToldOnce V.is_clone (Q.equivalent query.now) Wants.Value)
+            (S.shows (Q.equivalent query.now)) (S.refuses (Q.equivalent query.now)) (Some result) }
         // Without a limit it is in time.
         ensures timely { limit ≡ None → is_timeout result ≡ false }
     {
@@ -62,6 +66,8 @@ impl<
         // is for a key that the query becomes. It is refused as a load is.
         ensures answers { IsAnswered (FitsIfClonesDo L.fits V.is_clone (Q.equivalent query.now))
             (Q.to_key_gives query.now) result }
+        ensures cause { HasCause (WasToldOnce V.is_clone (Q.equivalent query.now) Wants.Value)
+            (S.shows (Q.equivalent query.now)) (S.refuses (Q.equivalent query.now)) (Some result) }
         // Its time is over only where no turn is left.
         ensures timely { is_timeout result ≡ true → none_left turns.new.limit turns.new.ended ≡ true }
         ensures counts { IsLater turns.old turns.new }
@@ -92,6 +98,8 @@ impl<
         ensures gives { IfGiven
             (FitsIfClonesDo L.fits V.is_clone (Q.equivalent query.now)) (Q.to_key_gives query.now)
             result }
+        ensures cause { GivesSo (WasTold V.is_clone (Q.equivalent query.now) Wants.Value false)
+            (S.shows (Q.equivalent query.now)) (S.refuses (Q.equivalent query.now)) result }
         ensures refused { IsRefusedAsLoad result }
     {
         for _ in rt.forever() {

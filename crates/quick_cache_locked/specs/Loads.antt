@@ -1,14 +1,16 @@
 -- Loads in a shard behind its lock: how they begin, and how they end.
-use Rattle.std.specs.Prelude.{◌≡◌, ℕ, Bool, false, Result, Ok, Err}
+use Rattle.std.specs.Prelude.{◌≡◌, ℕ, Bool, false, List, Result, Ok, Err}
 use Rattle.quick_cache_model.specs.declared.refusal.Refusal.{Refusal}
 use Rattle.quick_cache_model.specs.declared.terms.lifecycle.Lifecycle as lifecycle
-use Rattle.quick_cache_model.specs.CacheState.{CacheState}
+use Rattle.quick_cache_model.specs.CacheState.{CacheState, Item, Place}
+use Rattle.quick_cache_model.specs.Finding.{IsItemAt}
+use Rattle.quick_cache_model.specs.Refusals.{MayRefuse, needs_of_placeholder, needs_of_replacement}
 use Rattle.quick_cache_model.specs.Hooks.{Rules, Hooks, Calls}
 use Rattle.quick_cache_shard.specs.Filling.{AnswersFill, AwaitsKey}
 use Rattle.quick_cache_loading.specs.declared.sharing.shard.Begun.{Begun}
 use Rattle.quick_cache_shard.specs.Shard.{Shard}
 use Rattle.quick_cache_shard.specs.Steps.{Goes, steady_in, hooks_in, rules_in}
-use Rattle.quick_cache_locked.specs.Locked.{FromSome}
+use Rattle.quick_cache_locked.specs.Locked.{FromSome, IsKept}
 
 -- what a load begins with, as the shard's own answer: a clone, or the placeholder
 abbrev pub begun_of : {V P : Type 0} → Result (Begun V P) Refusal → Result (Result V P) Refusal
@@ -47,3 +49,33 @@ abbrev pub EndsSomeLoad : {K V We B L S : Type 0} → lifecycle.Ghosts L K V S �
 EndsSomeLoad {K} {V} {We} {B} {L} life equal goes may_count ticket marked key value first last =
     FromSome life equal (λ old. (new : Shard K V We B L) × EndsLoadBy goes may_count old equal ticket
     marked key value (Ok tt) new first last)
+
+-- what a load takes that may run out: memory, or the ticket or the slot of a placeholder, which is
+-- made where no key is found, or in the place of an item
+pub data RefusesLoad {K V : Type 0} (stands_for : K → Bool) (state : CacheState K V)
+    : Refusal → Type 0 where
+  for_memory : RefusesLoad stands_for state Refusal.Memory
+  for_new : (hash : ℕ) (refusal : Refusal)
+      → MayRefuse (needs_of_placeholder stands_for hash state) state refusal
+      → RefusesLoad stands_for state refusal
+  in_place : (place : Place) (before : List (Item K V)) (item : Item K V) (after : List (Item K V))
+      (refusal : Refusal) → IsItemAt stands_for state place before item after
+      → MayRefuse needs_of_replacement state refusal → RefusesLoad stands_for state refusal
+
+module _ {K V We B L S : Type 0} (life : lifecycle.Ghosts L K V S) (equal : K → K → Bool) where
+  -- a shard that was kept has an item under such a key, and this is a clone of its value
+  pub record ShowsClone (is_clone : V → V → Type 0) (stands_for : K → Bool) (clone : V)
+      (shard : Shard K V We B L) : Type 0 where
+    pub kept : IsKept life equal shard
+    pub place : Place
+    pub before : List (Item K V)
+    pub item : Item K V
+    pub after : List (Item K V)
+    pub there : IsItemAt stands_for shard.state place before item after
+    pub cloned : is_clone item.value clone
+
+  -- a shard that was kept refuses so to load such a key
+  pub record RefusesSo (stands_for : K → Bool) (refusal : Refusal) (shard : Shard K V We B L)
+      : Type 0 where
+    pub kept : IsKept life equal shard
+    pub cause : RefusesLoad stands_for shard.state refusal

@@ -1,9 +1,47 @@
 -- A walk that comes to the end of a shard.
-use Rattle.std.proofs.Common.{◌≡◌, ℕ, ◌+◌, refl, inl, inr, arith}
-use Rattle.quick_cache_sync.specs.Walks.{ComesTo, Standing}
+use Rattle.std.proofs.Common.{◌≡◌, ℕ, ◌+◌, ◌<◌, ◌⊎◌, Bool, refl, inl, inr, arith, subst, sym, ◌∙◌}
+use Rattle.quick_cache_model.specs.declared.terms.lifecycle.Lifecycle as lifecycle
+use Rattle.quick_cache_shard.specs.PlaceWalks.{EndsAt}
+use Rattle.quick_cache_shard.specs.Shard.{Shard}
+use Rattle.quick_cache_locked.specs.Locked.{FromSome}
+use Rattle.quick_cache_sync.specs.Walks.{ComesTo, EndsUpTo, Standing}
 
 -- it begins the next one
 pub ComesTo-next : (old : Standing) (shard after index : ℕ) → shard ≡ index
     → ComesTo old shard after → ComesTo old (index + 1) 0
 ComesTo-next old shard after index at (inl here) = inr (omega (arith, at, here.0), refl)
 ComesTo-next old shard after index at (inr later) = inr (omega (arith, at, later.0), refl)
+
+-- it comes to a shard behind one number
+ComesTo-same : (old : Standing) (shard first second : ℕ) → ComesTo old shard first
+    → ComesTo old shard second → first ≡ second
+ComesTo-same old shard first second (inl here) (inl also) = here.1 ∙ sym also.1
+ComesTo-same old shard first second (inl here) (inr later) =
+    absurd (omega (arith, here.0, later.0))
+ComesTo-same old shard first second (inr later) (inl here) =
+    absurd (omega (arith, here.0, later.0))
+ComesTo-same old shard first second (inr later) (inr also) = later.1 ∙ sym also.1
+
+-- a number below the next one is below this one, or it is this one
+below-next : (place index : ℕ) → place < index + 1 → (place < index) ⊎ (place ≡ index)
+below-next place index below = omega (arith, below)
+
+module _ {K V L S : Type 0} (life : lifecycle.Ghosts L K V S) (equal : K → K → Bool)
+    (We B : Type 0) (old : Standing) where
+  -- no shard is passed where it stands
+  pub EndsUpTo-first : EndsUpTo life equal We B old old.0
+  EndsUpTo-first place after (inl here) below = absurd (omega (arith, here.0, below))
+  EndsUpTo-first place after (inr later) below = absurd (omega (arith, later.0, below))
+
+  -- one more is passed that had no more
+  pub EndsUpTo-next : (shard after index : ℕ) → shard ≡ index → ComesTo old shard after
+      → FromSome life equal (λ (shard : Shard K V We B L). EndsAt shard.places after)
+      → EndsUpTo life equal We B old shard → EndsUpTo life equal We B old (index + 1)
+  EndsUpTo-next shard after index at comes ended before place behind came below =
+      elim below-next place index below [
+        | inl earlier ↦ before place behind came (omega (arith, at, earlier))
+        | inr here ↦ subst (λ number. FromSome life equal
+            (λ (shard : Shard K V We B L). EndsAt shard.places number))
+            (ComesTo-same old shard after behind comes
+            (subst (λ number. ComesTo old number behind) (here ∙ sym at) came)) ended
+      ]

@@ -1,10 +1,11 @@
 -- Walks over the shared cache: each step is one of some shard.
-use Rattle.std.specs.Prelude.{◌≡◌, ◌⊎◌, ℕ, ◌+◌, ◌*◌, ◌-◌, ◌<◌, Bool, Option, Some, IfSome, Result, IfOk}
+use Rattle.std.specs.Prelude.{◌≡◌, ◌⊎◌, ⊤, ℕ, ◌+◌, ◌*◌, ◌-◌, ◌<◌, ◌≤◌, Bool, Option, Some, None, IfSome, Result, Ok, Err, IfOk}
 use Rattle.std.specs.Iterator.{Count, at_most}
 use Rattle.std.specs.declared.num.NonZeroU32.{NonZeroU32 as Token}
 use Rattle.quick_cache_model.specs.declared.terms.lifecycle.Lifecycle as lifecycle
 use Rattle.quick_cache_model.specs.declared.refusal.Refusal.{Refusal}
 use Rattle.quick_cache_shard.specs.Copies.{ClonesAreEqual}
+use Rattle.quick_cache_shard.specs.PlaceWalks.{EndsAt}
 use Rattle.quick_cache_shard.specs.Shard.{Shard}
 use Rattle.quick_cache_shard.specs.WalksFrom.{number_or_zero}
 use Rattle.quick_cache_locked.specs.Fitting.{ClonesFit}
@@ -21,6 +22,11 @@ ComesTo old shard after = ((shard ≡ old.0) × (after ≡ number_or_zero old.1)
     ⊎ ((old.0 < shard) × (after ≡ 0))
 
 module _ {K V L S : Type 0} (life : lifecycle.Ghosts L K V S) (equal : K → K → Bool) where
+  -- each shard before this one, from where the walk stood, had no item behind where it came to it
+  abbrev pub EndsUpTo : (We B : Type 0) → Standing → (next : ℕ) → Type 0
+  EndsUpTo We B old next = (place after : ℕ) → ComesTo old place after → place < next
+      → FromSome life equal (λ (shard : Shard K V We B L). EndsAt shard.places after)
+
   -- A pair that is shown is a clone of the next item of some shard, behind where the walk came to it;
   -- and there the walk stands afterwards.
   abbrev pub ShowsPair : (We B : Type 0) → (key_clone : K → K → Type 0)
@@ -43,6 +49,13 @@ module _ {K V L S : Type 0} (life : lifecycle.Ghosts L K V S) (equal : K → K �
   ShownFits key_clone is_clone answer = ClonesAreEqual equal key_clone
       → ClonesFit life.fits is_clone
       → IfSome answer (λ step. IfOk step (λ pair. life.fits pair.0 pair.1))
+
+-- the walk ends only behind the last shard, and what refuses a step is memory
+abbrev pub EndsOrRefuses : {X : Type 0} → (shards : ℕ) → Option (Result X Refusal) → Standing
+    → Type 0
+EndsOrRefuses shards None new = shards ≤ new.0
+EndsOrRefuses shards (Some (Ok step)) new = ⊤
+EndsOrRefuses shards (Some (Err refusal)) new = refusal ≡ Refusal.Memory
 
 -- a value that is taken fits its key
 abbrev pub TakenFits : {K V L S : Type 0} → lifecycle.Ghosts L K V S → Option (K × V) → Type 0

@@ -5,8 +5,8 @@ ghost use Rattle.quick_cache_loading.specs.Fitting.{FitsQuery};
 ghost use Rattle.quick_cache_loading.specs.Turns.{IsLater, none_left};
 ghost use Rattle.quick_cache_guard.specs.Acts.{LeavesFit, LeavesHeld, LeavesOnce, MayAct, MayTell};
 ghost use Rattle.quick_cache_guard.specs.Entries.{AnswersAsChosen, IfAnswered, IfGivenBack, IfGuarded, IfRetained, IfUncalled};
-ghost use Rattle.quick_cache_guard.specs.Entries.{IsEntryToldSo, IsRefusedAsLoad, is_late};
-ghost use Rattle.quick_cache_guard.specs.Answers.{CameTo};
+ghost use Rattle.quick_cache_guard.specs.Entries.{CameSo, HasEntryCause, IsRefusedAsLoad, is_late};
+ghost use Rattle.quick_cache_guard.specs.Answers.{CameTo, WasToldOnce};
 
 use crate::coming::wait_at;
 use crate::entries::entering::{entry_of, join_there, share_of_new};
@@ -61,6 +61,10 @@ pub fn entry<
     ensures chosen { AnswersAsChosen (LeavesOnce F.FnOnce callback) L.fits
         (Q.equivalent query.now) ⊤ result }
     ensures refused { IsRefusedAsLoad result }
+    // Where it is refused, or late, that has its cause: what a placeholder's state told, or why a
+    // shard refused.
+    ensures cause { HasEntryCause (WasToldOnce V.is_clone (Q.equivalent query.now) Wants.End)
+        (S.refuses (Q.equivalent query.now)) result }
     // All its waits share the turns: its time is over only where none of them is left.
     ensures timely { is_late result ≡ true → none_left turns.new.limit turns.new.ended ≡ true }
     ensures counts { IsLater turns.old turns.new }
@@ -128,9 +132,9 @@ pub fn come<
         (LeavesHeld F.FnOnce callback.old) L.fits (Q.equivalent query.now)
         (callback.new ≡ callback.old) answer) }
     ensures refused { IfAnswered result IsRefusedAsLoad }
-    // It looks again, or is late, only where a placeholder's state told it so.
-    ensures cause { IsEntryToldSo (CameTo V.is_clone (Q.equivalent query.now) Wants.End is_over)
-        result }
+    // It has its cause: what a placeholder's state told, or why the shard refused.
+    ensures cause { CameSo (CameTo V.is_clone (Q.equivalent query.now) Wants.End is_over)
+        (S.refuses (Q.equivalent query.now)) result }
     ensures timely { is_over ≡ false → IfAnswered result (λ answer. is_late answer ≡ false) }
 {
     // The copy of the key is made before the shard changes.

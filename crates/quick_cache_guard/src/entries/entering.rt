@@ -1,7 +1,7 @@
 //! One who comes to a shard for an entry, and finds a placeholder.
 ghost use Rattle.std.specs.Prelude.{◌≡◌, false, IfOk, IfSome};
 ghost use Rattle.std.specs.Arc.{arc_value};
-ghost use Rattle.quick_cache_guard.specs.Entries.{IfAnswered, IfGivenBack, IfGuarded, IfRetained, IsEntryToldSo, IsRefusedAsLoad, entry_of, is_late};
+ghost use Rattle.quick_cache_guard.specs.Entries.{CameSo, IfAnswered, IfGivenBack, IfGuarded, IfRetained, IsRefusedAsLoad, entry_of, is_late};
 ghost use Rattle.quick_cache_guard.specs.Answers.{CameTo};
 
 use crate::coming::answer;
@@ -45,9 +45,9 @@ pub fn join_there<
     ensures told { IfAnswered result (λ answer. IfRetained answer (λ told. ⊥)) }
     ensures key { IfAnswered result (λ answer. IfGuarded answer (λ own. own ≡ key)) }
     ensures refused { IfAnswered result IsRefusedAsLoad }
-    // It looks again, or is late, only where the placeholder's state told it so.
-    ensures cause { IsEntryToldSo (CameTo V.is_clone (Q.equivalent query.now) Wants.End is_over)
-        result }
+    // It has its cause: what the placeholder's state told.
+    ensures cause { CameSo (CameTo V.is_clone (Q.equivalent query.now) Wants.End is_over)
+        (S.refuses (Q.equivalent query.now)) result }
     ensures timely { is_over ≡ false → IfAnswered result (λ answer. is_late answer ≡ false) }
 {
     let mut locked = locked;

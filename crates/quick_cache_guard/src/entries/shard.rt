@@ -41,6 +41,8 @@ pub trait EntryShard<K: Eq + Hash + Drop, V: Clone, L: Lifecycle<K, V>, A: Alloc
             (Q.equivalent query.now) told) }
         ensures uncalled { IfAbsent result (callback.new ≡ callback.old) }
         ensures refused { IfErr result IsLoadRefusal }
+        ensures refuses { IfErr result
+            (λ refusal. Self.refuses (Q.equivalent query.now) refusal self.old) }
         // What comes of it is what the callback chose, by its one call.
         ensures chosen { DoesAsChosen (LeavesHeld F.FnOnce callback.old) L.fits
             (Q.equivalent query.now) (callback.new ≡ callback.old) result };

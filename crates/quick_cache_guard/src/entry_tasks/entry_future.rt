@@ -4,9 +4,10 @@ ghost use Rattle.quick_cache_model.specs.Hashing.{StandsForGiven};
 ghost use Rattle.futures.specs.Poll.{IfReady, OnPending};
 ghost use Rattle.quick_cache_loading.specs.Fitting.{FitsQuery};
 ghost use Rattle.quick_cache_guard.specs.Acts.{LeavesFit, LeavesHeld, MayAct};
-ghost use Rattle.quick_cache_guard.specs.Entries.{AnswersAsChosen, IsRefusedAsLoad};
+ghost use Rattle.quick_cache_guard.specs.Entries.{AnswersAsChosen, HasEntryCause, IsRefusedAsLoad};
+ghost use Rattle.quick_cache_guard.specs.Answers.{WasTold};
 ghost use Rattle.quick_cache_guard.specs.Entering.{GivesEntry};
-ghost use Rattle.quick_cache_guard.specs.Futures.{AnswersOnce, IfWaits, IsSource, Registers, WasTold, has_answered, source_of};
+ghost use Rattle.quick_cache_guard.specs.Futures.{AnswersOnce, IfWaits, IsSource, Registers, has_answered, source_of};
 ghost use Rattle.std.specs.Arc.{arc_value};
 
 use crate::coming::leave;
@@ -155,13 +156,18 @@ impl<
         // The answer is what the callback chose, by its one call.
         ensures chosen { IfReady result (AnswersAsChosen (LeavesHeld F.FnOnce self.old.callback)
             L.fits (Q.equivalent self.old.query) (self.new.callback ≡ self.old.callback)) }
+        // Where it is refused that has its cause: what a placeholder's state told, or why a shard
+        // refused.
+        ensures cause { self.old.is_finished ≡ false → IfReady result (HasEntryCause
+            (WasTold V.is_clone (Q.equivalent self.old.query) Wants.End false)
+            (S.refuses (Q.equivalent self.old.query))) }
         ensures once { AnswersOnce IsRefusedAsLoad (EntryResult.Refused Refusal.Finished) self.old.is_finished
             result self.new.is_finished }
         ensures registers { Registers (IsSome self.new.source) (IsSource self.new.source) result
             cx.old cx.new }
         // One that stands nowhere was told to look again.
         ensures again { OnPending result (IsSome self.new.source
-            ⊎ WasTold V.is_clone (Q.equivalent self.old.query) Wants.End Waited.Again) }
+            ⊎ WasTold V.is_clone (Q.equivalent self.old.query) Wants.End false Waited.Again) }
         ensures query { self.new.query ≡ self.old.query }
         ensures uncalled { OnPending result (self.new.callback ≡ self.old.callback) }
     {
@@ -192,12 +198,15 @@ impl<
             (LeavesHeld F.FnOnce self.old.callback) L.fits (Q.equivalent self.old.query)
             (self.new.callback ≡ self.old.callback))) }
         ensures refused { IfReady result (λ told. IfSome told IsRefusedAsLoad) }
+        ensures cause { IfReady result (λ told. IfSome told (HasEntryCause
+            (WasTold V.is_clone (Q.equivalent self.old.query) Wants.End false)
+            (S.refuses (Q.equivalent self.old.query)))) }
         ensures taken { IfReady result (λ _. self.new.is_finished ≡ true) }
         ensures goes_on { OnPending result (self.new.is_finished ≡ false) }
         ensures waits { OnPending result (IsSome self.new.source) }
         // It looks again only where it was told to.
         ensures again { IfReady result (λ answer. IfNone answer
-            (WasTold V.is_clone (Q.equivalent self.old.query) Wants.End Waited.Again)) }
+            (WasTold V.is_clone (Q.equivalent self.old.query) Wants.End false Waited.Again)) }
         ensures registers { Registers (IsSome self.new.source) (IsSource self.new.source) result
             cx.old cx.new }
         ensures query { self.new.query ≡ self.old.query }
@@ -241,13 +250,16 @@ impl<
             (Q.to_key_gives self.old.query) self.old.callback) }
         ensures chosen { IfReady result (AnswersAsChosen (LeavesHeld F.FnOnce self.old.callback)
             L.fits (Q.equivalent self.old.query) (self.new.callback ≡ self.old.callback)) }
+        ensures cause { IfReady result (HasEntryCause
+            (WasTold V.is_clone (Q.equivalent self.old.query) Wants.End false)
+            (S.refuses (Q.equivalent self.old.query))) }
         ensures once { AnswersOnce IsRefusedAsLoad (EntryResult.Refused Refusal.Finished) false
             result self.new.is_finished }
         ensures registers { Registers (IsSome self.new.source) (IsSource self.new.source) result
             cx.old cx.new }
         // One that stands nowhere was told to look again.
         ensures again { OnPending result (IsSome self.new.source
-            ⊎ WasTold V.is_clone (Q.equivalent self.old.query) Wants.End Waited.Again) }
+            ⊎ WasTold V.is_clone (Q.equivalent self.old.query) Wants.End false Waited.Again) }
         ensures query { self.new.query ≡ self.old.query }
         ensures uncalled { OnPending result (self.new.callback ≡ self.old.callback) }
     {
@@ -269,7 +281,7 @@ impl<
     ) -> Poll<EntryResult<T, K, V, PlaceholderGuard<'a, K, V, L, S, R, A>>>
         requires held { IsSome self.old.callback }
         requires taken { self.old.is_finished ≡ true }
-        requires cause { WasTold V.is_clone (Q.equivalent self.old.query) Wants.End Waited.Again }
+        requires cause { WasTold V.is_clone (Q.equivalent self.old.query) Wants.End false Waited.Again }
         ensures again { IfReady result (λ _. ⊥) }
         ensures goes_on { self.new.is_finished ≡ false }
         ensures registers { Registers (IsSome self.new.source) (IsSource self.new.source) result

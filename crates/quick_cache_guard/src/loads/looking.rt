@@ -1,7 +1,6 @@
 //! A look beside other readers, before the shard is locked for itself.
-ghost use Rattle.std.specs.Prelude.{IfOk, IfSome, IfErr};
+ghost use Rattle.std.specs.Prelude.{◌≡◌, IfOk, IfSome, IfErr};
 ghost use Rattle.quick_cache_loading.specs.Fitting.{ClonesFit, FitsQuery};
-ghost use Rattle.quick_cache_loading.specs.Waiters.{IsLoadRefusal};
 
 use crate::LoadingShard;
 use quick_cache_model::{Equivalent, Lifecycle, Refusal};
@@ -28,7 +27,10 @@ pub fn look<
     // Whatever other threads do, the value fits a key that the query stands for.
     ensures fits { ClonesFit L.fits V.is_clone → IfOk result
         (λ found. IfSome found (λ value. FitsQuery L.fits (Q.equivalent query.now) value)) }
-    ensures refused { IfErr result IsLoadRefusal }
+    // Some shard showed it.
+    ensures shows { IfOk result (λ found. IfSome found
+        (λ value. (shard : S) × S.shows (Q.equivalent query.now) value shard)) }
+    ensures refused { IfErr result (λ refusal. refusal ≡ Refusal.Memory) }
 {
     reading(rt, shard).find(query)
 }

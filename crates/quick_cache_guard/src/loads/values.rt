@@ -1,13 +1,15 @@
 //! The value of a key, which one thread loads while others wait for it.
-ghost use Rattle.std.specs.Prelude.{◌≡◌, true, false, None, Ok, Err, IfOk, IfErr};
+ghost use Rattle.std.specs.Prelude.{◌≡◌, true, false, Some, None, Ok, Err, IfOk, IfErr};
 ghost use Rattle.quick_cache_model.specs.Hashing.{StandsForGiven};
 ghost use Rattle.quick_cache_loading.specs.Fitting.{ClonesFit, FitsQuery};
-ghost use Rattle.quick_cache_guard.specs.Answers.{IfGuard, IfValue, RefusesAsLoad, is_timeout};
+ghost use Rattle.quick_cache_guard.specs.Answers.{HasCause, IfGuard, IfValue, IsGivenSo, IsRefusedSo, RefusesAsLoad, WasTold, WasToldOnce, is_timeout};
+ghost use Rattle.quick_cache_guard.specs.Loaders.{LoadsSo};
 ghost use Rattle.quick_cache_loading.specs.Waiters.{IsLoadRefusal};
 
 use crate::loads::looking::look;
 use crate::results::Fetched;
 use crate::{GuardResult, LoadingShard, PlaceholderGuard};
+use quick_cache_loading::waiting::Wants;
 use quick_cache_model::{Lifecycle, Refusal, ToKey};
 use std::alloc::Allocator;
 use std::hash::Hash;
@@ -41,7 +43,11 @@ pub fn get_value_or_guard<
         → IfValue result (λ value. FitsQuery L.fits (Q.equivalent query.now) value) }
     // The guard is for a key that the query becomes.
     ensures key { IfGuard result (λ key. Q.to_key_gives query.now key) }
-    // It is refused as a load is, and in time where there is no limit.
+    // The answer has its cause: what a placeholder's state told, what a shard showed, or why it
+    // refused. In time is who has no limit.
+    ensures cause { HasCause (WasToldOnce V.is_clone (Q.equivalent query.now) Wants.Value)
+        (S.shows (Q.equivalent query.now)) (S.refuses (Q.equivalent query.now))
+        (Some result) }
     ensures refused { RefusesAsLoad result }
     ensures timely { limit ≡ None → is_timeout result ≡ false }
 {
@@ -80,6 +86,11 @@ pub fn get_or_insert_with<
     // Whatever other threads do, the value fits a key that the query stands for.
     ensures fits { IfOk result (λ loaded. IfOk loaded
         (λ value. FitsQuery L.fits (Q.equivalent query.now) value)) }
+    // A shard showed it, a placeholder's state gave it, or the loader did; and a refusal has its
+    // cause.
+    ensures cause { LoadsSo (WasTold V.is_clone (Q.equivalent query.now) Wants.Value false)
+        (S.shows (Q.equivalent query.now)) (S.refuses (Q.equivalent query.now))
+        (λ value. F.post loader (Ok value)) result }
     ensures error { IfOk result (λ loaded. IfErr loaded (λ error. F.post loader (Err error))) }
     ensures refused { IfErr result IsLoadRefusal }
 {
@@ -114,7 +125,16 @@ pub fn get_or_insert_told<
     // Where it is told to be loaded, the loader gave it.
     ensures loaded { IfOk result (λ loaded. IfOk loaded
         (λ fetched. fetched.loaded ≡ true → F.post loader (Ok fetched.value))) }
+    // Where it is not, a shard showed it, or a placeholder's state gave it.
+    ensures found { IfOk result (λ loaded. IfOk loaded
+        (λ fetched. fetched.loaded ≡ false → IsGivenSo
+        (WasTold V.is_clone (Q.equivalent query.now) Wants.Value false)
+        (S.shows (Q.equivalent query.now)) fetched.value)) }
     ensures error { IfOk result (λ loaded. IfErr loaded (λ error. F.post loader (Err error))) }
+    // It is refused only with a cause.
+    ensures cause { IfErr result (IsRefusedSo
+        (WasTold V.is_clone (Q.equivalent query.now) Wants.Value false)
+        (S.refuses (Q.equivalent query.now))) }
     ensures refused { IfErr result IsLoadRefusal }
 {
     let value = match look(rt, shard, query) {

@@ -3,14 +3,15 @@ ghost use Rattle.std.specs.Prelude.{◌≡◌, true, false, Ok, Err};
 ghost use Rattle.quick_cache_model.specs.Hashing.{StandsForGiven};
 ghost use Rattle.futures.specs.Poll.{IfReady, OnPending};
 ghost use Rattle.quick_cache_loading.specs.Fitting.{ClonesFit, FitsQuery};
-ghost use Rattle.quick_cache_guard.specs.Answers.{IsRefusedAsLoad};
+ghost use Rattle.quick_cache_guard.specs.Answers.{IsRefusedAsLoad, WasTold};
 ghost use Rattle.quick_cache_guard.specs.Futures.{AnswersOnce, Registers};
-ghost use Rattle.quick_cache_guard.specs.Loaders.{HasPlace, IfLoaded, NeedsOf};
+ghost use Rattle.quick_cache_guard.specs.Loaders.{HasPlace, IfLoaded, LoadsSo, NeedsOf};
 
 use crate::loads::keep;
 use crate::{JoinFuture, LoadingShard, PlaceholderGuard};
 use futures::Future;
 use futures::task::{Context, Poll};
+use quick_cache_loading::waiting::Wants;
 use quick_cache_model::{Lifecycle, Refusal, ToKey};
 use std::alloc::{Allocator, Global};
 use std::hash::Hash;
@@ -131,6 +132,12 @@ impl<
         ensures gives { IfReady result (IfLoaded
             (λ value. FitsQuery L.fits (Q.equivalent self.old.query) value)
             (λ error. F.gives self.old.loader (Err error))) }
+        // A value was found, or came to one who waits, or the loader gave it; and a refusal has its
+        // cause.
+        ensures cause { self.old.is_finished ≡ false → IfReady result (LoadsSo
+            (WasTold V.is_clone (Q.equivalent self.old.query) Wants.Value false)
+            (S.shows (Q.equivalent self.old.query)) (S.refuses (Q.equivalent self.old.query))
+            (λ value. F.gives self.old.loader (Ok value))) }
         ensures once { AnswersOnce IsRefusedAsLoad (Err Refusal.Finished) self.old.is_finished
             result self.new.is_finished }
         ensures registers { Registers (HasPlace self.new)
@@ -163,6 +170,10 @@ impl<
         ensures gives { IfReady result (IfLoaded
             (λ value. FitsQuery L.fits (Q.equivalent self.old.query) value)
             (λ error. F.gives self.old.loader (Err error))) }
+        ensures cause { IfReady result (LoadsSo
+            (WasTold V.is_clone (Q.equivalent self.old.query) Wants.Value false)
+            (S.shows (Q.equivalent self.old.query)) (S.refuses (Q.equivalent self.old.query))
+            (λ value. F.gives self.old.loader (Ok value))) }
         ensures once { AnswersOnce IsRefusedAsLoad (Err Refusal.Finished) false result
             self.new.is_finished }
         ensures registers { Registers (HasPlace self.new)
@@ -198,6 +209,10 @@ impl<
         ensures gives { IfReady result (IfLoaded
             (λ value. FitsQuery L.fits (Q.equivalent self.old.query) value)
             (λ error. F.gives self.old.loader (Err error))) }
+        ensures cause { IfReady result (LoadsSo
+            (WasTold V.is_clone (Q.equivalent self.old.query) Wants.Value false)
+            (S.shows (Q.equivalent self.old.query)) (S.refuses (Q.equivalent self.old.query))
+            (λ value. F.gives self.old.loader (Ok value))) }
         ensures once { AnswersOnce IsRefusedAsLoad (Err Refusal.Finished) false result
             self.new.is_finished }
         ensures registers { Registers (HasPlace self.new)

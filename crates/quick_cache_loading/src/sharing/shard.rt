@@ -1,6 +1,7 @@
 //! A shard, as those who load its keys use it while they hold its lock.
 ghost use Rattle.std.specs.Prelude.{◌≡◌, ℕ, Bool, IfOk, IfErr, OnOk, OnErr, IfSome};
 ghost use Rattle.quick_cache_model.specs.Hashing.{StandsForGiven};
+ghost use Rattle.quick_cache_model.specs.declared.refusal.Refusal.{Refusal};
 ghost use Rattle.quick_cache_loading.specs.Fitting.{ClonesFit, FitsQuery};
 ghost use Rattle.quick_cache_loading.specs.Begins.{IfFound};
 ghost use Rattle.quick_cache_loading.specs.Waiters.{IsLoadRefusal};
@@ -32,6 +33,12 @@ pub trait LoadingShard<K: Eq + Hash + Drop, V: Clone, L: Lifecycle<K, V>, A: All
     /// The shard has no placeholder of this ticket for an equal key.
     ghost lacks: { ℕ → K → Self → Type 0 };
 
+    /// The shard has an item under such a key, and this is a clone of its value.
+    ghost shows: { (K → Bool) → V → Self → Type 0 };
+
+    /// The shard refuses so to load such a key.
+    ghost refuses: { (K → Bool) → Refusal → Self → Type 0 };
+
     /// Looks the query's key up beside other readers, and gives a clone of its value. A find counts
     /// a hit and a touch of the item. Where there is none nothing is counted, since the caller goes
     /// on to `begin_load`.
@@ -44,7 +51,9 @@ pub trait LoadingShard<K: Eq + Hash + Drop, V: Clone, L: Lifecycle<K, V>, A: All
         ensures fits { ClonesFit L.fits V.is_clone → IfOk result
             (λ found. IfSome found
             (λ value. FitsQuery L.fits (Q.equivalent query.now) value)) }
-        ensures refused { IfErr result IsLoadRefusal };
+        ensures shows { IfOk result
+            (λ found. IfSome found (λ value. shows (Q.equivalent query.now) value self.now)) }
+        ensures refused { IfErr result (λ refusal. refusal ≡ Refusal.Memory) };
 
     /// Looks the query's key up. Where no item stands under it, a placeholder is made or met.
     ///
@@ -61,6 +70,10 @@ pub trait LoadingShard<K: Eq + Hash + Drop, V: Clone, L: Lifecycle<K, V>, A: All
         ensures fits { ClonesFit L.fits V.is_clone → IfOk result
             (λ begun. IfFound begun
             (λ value. FitsQuery L.fits (Q.equivalent query.now) value)) }
+        ensures shows { IfOk result
+            (λ begun. IfFound begun (λ value. shows (Q.equivalent query.now) value self.old)) }
+        ensures refuses { IfErr result
+            (λ refusal. refuses (Q.equivalent query.now) refusal self.old) }
         ensures refused { IfErr result IsLoadRefusal };
 
     /// Puts the value of a placeholder that was filled into its place, if it is there and is for that

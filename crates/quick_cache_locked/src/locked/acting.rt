@@ -7,6 +7,7 @@ ghost use Rattle.quick_cache_shard.specs.Shard.{LosesOnly, KeepsWork};
 ghost use Rattle.quick_cache_locked.specs.Acting.{LeavesNow, MayActNow};
 ghost use Rattle.quick_cache_locked.specs.Fitting.{FitsQuery};
 ghost use Rattle.quick_cache_model.specs.Hashing.{StandsForGiven};
+ghost use Rattle.quick_cache_locked.specs.Loads.{RefusesLoad};
 ghost use Rattle.quick_cache_locked.specs.Locked.{IsKept};
 ghost use Rattle.quick_cache_locked.specs.Touches.{any_touches};
 ghost use Rattle.quick_cache_shard.specs.Steps.{rules_in};
@@ -47,6 +48,7 @@ impl<
             (Q.equivalent query.now) told) }
         ensures uncalled { IfAbsent result (callback.new ≡ callback.old) }
         ensures refused { IfErr result IsLoadRefusal }
+        ensures refuses { IfErr result (RefusesLoad (Q.equivalent query.now) self.old.state) }
         ensures chosen { DoesAsChosen (LeavesNow F.FnMut callback.old) L.fits
             (Q.equivalent query.now) (callback.new ≡ callback.old) result }
         ensures places { LosesOnly self.old.places self.new.places }

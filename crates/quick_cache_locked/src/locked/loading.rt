@@ -6,7 +6,7 @@ ghost use Rattle.quick_cache_shard.specs.Loading.{BeginsLoad};
 ghost use Rattle.quick_cache_shard.specs.Shard.{KeepsPlaces, UpToOrder};
 ghost use Rattle.quick_cache_loading.specs.Begins.{IfFound};
 ghost use Rattle.quick_cache_locked.specs.Fitting.{ClonesFit, FitsQuery};
-ghost use Rattle.quick_cache_locked.specs.Loads.{AwaitsNoEqual, EndsLoadBy, EndsSomeLoad, begun_of};
+ghost use Rattle.quick_cache_locked.specs.Loads.{AwaitsNoEqual, EndsLoadBy, EndsSomeLoad, RefusesSo, ShowsClone, begun_of};
 ghost use Rattle.quick_cache_locked.specs.Locked.{IsKept};
 ghost use Rattle.quick_cache_locked.specs.Touches.{any_touches};
 
@@ -110,6 +110,10 @@ impl<
     ghost fills = { EndsSomeLoad L.Lifecycle K.eq ⟦<Self as Ruled>⟧.goes any_touches };
 
     ghost lacks = { λ ticket key shard. AwaitsNoEqual K.eq ticket key shard.state };
+
+    ghost shows = { ShowsClone L.Lifecycle K.eq V.is_clone };
+
+    ghost refuses = { RefusesSo L.Lifecycle K.eq };
 
     fn find<Q: Equivalent<K>>(&self, query: &Q) -> Result<Option<V>, Refusal> {
         self.find(query)

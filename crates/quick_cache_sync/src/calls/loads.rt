@@ -1,10 +1,15 @@
 //! Calls of a cache that load a value where none is there, and make others wait for it. Whatever
 //! other threads do, what they give fits a key that the query stands for.
-ghost use Rattle.std.specs.Prelude.{◌≡◌, ⊤, true, false, None, Ok, Err, IfOk, IfErr};
-ghost use Rattle.quick_cache_guard.specs.Answers.{IfGuard, IfValue, IsLoadRefusal, RefusesAsLoad, is_timeout};
+ghost use Rattle.std.specs.Prelude.{◌≡◌, ⊤, true, false, Some, None, Ok, Err, IfOk, IfErr};
+ghost use Rattle.quick_cache_guard.specs.Answers.{HasCause, IfGuard, IfValue, IsGivenSo, IsLoadRefusal, IsRefusedSo, RefusesAsLoad};
+ghost use Rattle.quick_cache_guard.specs.Answers.{WasTold, WasToldOnce, is_timeout};
 ghost use Rattle.quick_cache_guard.specs.Acts.{LeavesFit, LeavesOnce, MayAct, MayTell};
-ghost use Rattle.quick_cache_guard.specs.Entries.{AnswersAsChosen, IfGivenBack, IfGuarded, IfRetained, IsRefusedAsLoad, is_late};
+ghost use Rattle.quick_cache_guard.specs.Entries.{AnswersAsChosen, HasEntryCause, IfGivenBack, IfGuarded, IfRetained, IsRefusedAsLoad, is_late};
 ghost use Rattle.quick_cache_locked.specs.Fitting.{ClonesFit, FitsQuery};
+ghost use Rattle.quick_cache_guard.specs.Loaders.{LoadsSo};
+ghost use Rattle.quick_cache_locked.specs.Loads.{RefusesSo, ShowsClone};
+ghost use Rattle.quick_cache_loading.specs.declared.waiting.waited.Wants.{Wants};
+ghost use Rattle.quick_cache_shard.specs.Shard.{Shard};
 ghost use Rattle.quick_cache_model.specs.Hashing.{StandsForGiven};
 
 use crate::cache::Cache;
@@ -44,6 +49,12 @@ impl<
             → IfValue result (λ value. FitsQuery L.fits (Q.equivalent query.now) value) }
         // The guard is for a key that the query becomes.
         ensures key { IfGuard result (λ key. Q.to_key_gives query.now key) }
+        // A value was found in some shard, or came to one who waits; a refusal is some shard's, or
+        // that of a placeholder's state.
+        ensures cause { HasCause (WasToldOnce V.is_clone (Q.equivalent query.now) Wants.Value)
+            (λ value (shard : Shard K V We B L). ShowsClone L.Lifecycle K.eq V.is_clone
+            (Q.equivalent query.now) value shard)
+            (RefusesSo L.Lifecycle K.eq (Q.equivalent query.now)) (Some result) }
         // It is refused as a load is, and in time where there is no limit.
         ensures refused { RefusesAsLoad result }
         ensures timely { limit ≡ None → is_timeout result ≡ false }
@@ -73,6 +84,12 @@ impl<
         requires clones { ClonesFit L.fits V.is_clone }
         ensures fits { IfOk result (λ loaded. IfOk loaded
             (λ value. FitsQuery L.fits (Q.equivalent query.now) value)) }
+        // A value was found in some shard, or came to one who waits, or the loader gave it; a refusal
+        // is some shard's, or that of a placeholder's state.
+        ensures cause { LoadsSo (WasTold V.is_clone (Q.equivalent query.now) Wants.Value false)
+            (λ value (shard : Shard K V We B L). ShowsClone L.Lifecycle K.eq V.is_clone
+            (Q.equivalent query.now) value shard) (RefusesSo L.Lifecycle K.eq (Q.equivalent query.now))
+            (λ value. F.post loader (Ok value)) result }
         ensures error { IfOk result (λ loaded. IfErr loaded (λ error. F.post loader (Err error))) }
         ensures refused { IfErr result IsLoadRefusal }
     {
@@ -97,7 +114,18 @@ impl<
         // Where it is told to be loaded, the loader gave it.
         ensures loaded { IfOk result (λ loaded. IfOk loaded
             (λ fetched. fetched.loaded ≡ true → F.post loader (Ok fetched.value))) }
+        // Where it is not, it was found in some shard, or came to one who waits.
+        ensures found { IfOk result (λ loaded. IfOk loaded
+            (λ fetched. fetched.loaded ≡ false → IsGivenSo
+            (WasTold V.is_clone (Q.equivalent query.now) Wants.Value false)
+            (λ value (shard : Shard K V We B L). ShowsClone L.Lifecycle K.eq V.is_clone
+            (Q.equivalent query.now) value shard) fetched.value)) }
         ensures error { IfOk result (λ loaded. IfErr loaded (λ error. F.post loader (Err error))) }
+        // It is refused by some shard, or by a placeholder's state.
+        ensures cause { IfErr result (IsRefusedSo
+            (WasTold V.is_clone (Q.equivalent query.now) Wants.Value false)
+            (λ refusal (shard : Shard K V We B L). RefusesSo L.Lifecycle K.eq
+            (Q.equivalent query.now) refusal shard)) }
         ensures refused { IfErr result IsLoadRefusal }
     {
         loads::get_or_insert_told(rt, self.shard_of(query), query, loader)
@@ -139,6 +167,10 @@ impl<
         // shard then.
         ensures chosen { AnswersAsChosen (LeavesOnce F.FnOnce callback) L.fits
             (Q.equivalent query.now) ⊤ result }
+        // A refusal is some shard's, or that of a placeholder's state.
+        ensures cause { HasEntryCause (WasToldOnce V.is_clone (Q.equivalent query.now) Wants.End)
+            (λ refusal (shard : Shard K V We B L). RefusesSo L.Lifecycle K.eq
+            (Q.equivalent query.now) refusal shard) result }
         // It is refused as a load is, and in time where there is no limit.
         ensures refused { IsRefusedAsLoad result }
         ensures timely { limit ≡ None → is_late result ≡ false }

@@ -41,15 +41,18 @@ impl<
     R: Wait,
     A: Allocator,
 > Iterator for Iter<'a, K, V, We, B, L, R, A> {
-    ghost use Rattle.quick_cache_sync.specs.Walks.{ShowsPair, ShownFits};
+    ghost use Rattle.quick_cache_sync.specs.Walks.{EndsOrRefuses, EndsUpTo, ShowsPair, ShownFits};
 
     type Item = Result<(K, V), Refusal>;
 
-    // Whatever other threads do, a pair that is shown is that of the next place, and fits.
+    // Whatever other threads do, a pair that is shown is that of the next place, and fits. Each shard
+    // that it passed had no more, and it ends only behind the last one.
     ghost next_gives = { λ old answer new.
         ShowsPair L.Lifecycle K.eq We B K.is_clone V.is_clone (old.shard, old.after) answer
         (new.shard, new.after)
-        × ShownFits L.Lifecycle K.eq K.is_clone V.is_clone answer };
+        × ShownFits L.Lifecycle K.eq K.is_clone V.is_clone answer
+        × EndsUpTo L.Lifecycle K.eq We B (old.shard, old.after) new.shard
+        × EndsOrRefuses old.cache.now.shards answer (new.shard, new.after) };
 
     fn next(&mut self) -> Option<Result<(K, V), Refusal>> {
         let cache = self.cache;
@@ -126,16 +129,19 @@ impl<
     R: Wait,
     A: Allocator,
 > Iterator for Drain<'a, K, V, We, B, L, R, A> {
-    ghost use Rattle.std.specs.Prelude.{vec_len};
+    ghost use Rattle.std.specs.Prelude.{◌≤◌, IfNone};
     ghost use Rattle.quick_cache_shard.specs.WalksFrom.{number_or_zero};
-    ghost use Rattle.quick_cache_sync.specs.Walks.{TakesPair, TakenFits, tokens_ahead};
+    ghost use Rattle.quick_cache_sync.specs.Walks.{EndsUpTo, TakesPair, TakenFits, tokens_ahead};
 
     type Item = (K, V);
 
-    // Whatever other threads do, a pair that is taken is that of the next place, and fits.
+    // Whatever other threads do, a pair that is taken is that of the next place, and fits. Each shard
+    // that it passed had no more, and it ends only behind the last one.
     ghost next_gives = { λ old answer new.
         TakesPair L.Lifecycle K.eq We B (old.shard, old.after) answer (new.shard, new.after)
-        × TakenFits L.Lifecycle answer };
+        × TakenFits L.Lifecycle answer
+        × EndsUpTo L.Lifecycle K.eq We B (old.shard, old.after) new.shard
+        × IfNone answer (old.cache.now.shards ≤ new.shard) };
 
     ghost remaining = { λ drain. tokens_ahead drain.cache.now.shards drain.shard
         (number_or_zero drain.after) };

@@ -12,6 +12,9 @@ returns-clause-answers g c = rw c.answer.ensures (answered
     c.in-Ok.ensures.gives c.in-Err-entered.ensures.told)
 
 pub returns-clause-cause : goal.returns-clause-cause
-returns-clause-cause g c = rw c.answer.ensures (told_so
+returns-clause-cause g c =
+    let stands_for = g.Q.Equivalent.equivalent c.args.query.now in
+    rw c.answer.ensures (told_so (g.S.LoadingShard.shows stands_for)
+    (g.S.LoadingShard.refuses stands_for)
     (CameTo g.V.Clone.is_clone (g.Q.Equivalent.equivalent c.args.query.now) Wants.Value
     c.args.is_over) c.in-Ok.key c.in-Err-entered.told (_, c.in-Err-entered.ensures.enters))

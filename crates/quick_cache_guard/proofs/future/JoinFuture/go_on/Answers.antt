@@ -11,3 +11,14 @@ pub returns-in-Waits-clause-again : goal.returns-in-Waits-clause-again
 returns-in-Waits-clause-again g c =
     let query : c.self.inside.query.now ≡ c.args.self.now.query = search rules in
     rw query at c.wait.ensures.again
+
+-- so was whoever answers
+pub returns-in-Looks-clause-cause : goal.returns-in-Looks-clause-cause
+returns-in-Looks-clause-cause g c = λ _.
+    let query : c.self.inside.query.now ≡ c.args.self.now.query = search rules in
+    rw query at c.look.ensures.cause
+
+pub returns-in-Waits-clause-cause : goal.returns-in-Waits-clause-cause
+returns-in-Waits-clause-cause g c = λ _.
+    let query : c.self.inside.query.now ≡ c.args.self.now.query = search rules in
+    rw query at c.wait.ensures.cause

@@ -1,7 +1,6 @@
 use Rattle.std.proofs.Common.{◌≡◌, false, inl, rules}
 use Rattle.quick_cache_loading.specs.declared.waiting.waited.Wants.{Wants}
-use Rattle.quick_cache_guard.specs.Answers.{CameTo}
-use Rattle.quick_cache_guard.specs.Futures.{WasTold}
+use Rattle.quick_cache_guard.specs.Answers.{CameTo, WasTold}
 use Rattle.quick_cache_guard.proofs.AnswerLemmas.{came_so}
 use Rattle.quick_cache_guard.proofs.future.JoinFuture.look.Goals as goal
 
@@ -11,6 +10,7 @@ give-requires-clause-cause g c =
     let query : c.self.inside.query.now ≡ c.args.self.now.query = search rules in
     let shows = g.V.Clone.is_clone in
     let stands_for = g.Q.Equivalent.equivalent c.self.inside.query.now in
-    rw query at (came_so (CameTo shows stands_for Wants.Value false)
-    (WasTold shows stands_for Wants.Value) (λ told is. inl is) c.in-Err-come.told
+    rw query at (came_so (g.S.LoadingShard.shows stands_for)
+    (g.S.LoadingShard.refuses stands_for) (CameTo shows stands_for Wants.Value false)
+    (WasTold shows stands_for Wants.Value false) (λ told is. inl is) c.in-Err-come.told
     c.in-Err-come.ensures.cause)

@@ -1,7 +1,7 @@
 use Rattle.quick_cache_locked.proofs.EntryFits.{AnswersEntry-fits, AnswersEntry-chosen, AnswersEntry-gives, AnswersEntry-tells}
 use Rattle.quick_cache_locked.proofs.EntryFits.{AnswersEntry-uncalled}
 use Rattle.quick_cache_locked.proofs.FitWrites.{IsItemAt-fits}
-use Rattle.quick_cache_locked.proofs.LoadLemmas.{AnswersEntry-refusal}
+use Rattle.quick_cache_locked.proofs.LoadLemmas.{AnswersEntry-refusal, IfErr-is, RefusesLoad-load}
 use Rattle.quick_cache_locked.proofs.locked.LockedShard.act_on.Goals as goal
 
 -- the value of the item under the query fits its key
@@ -54,8 +54,18 @@ returns-clause-chosen g c =
     c.self.invariant
     c.entry_or_placeholder.result _ _ c.entry_or_placeholder.ensures.answers
 
+-- and it is refused as a load is
+pub returns-clause-refuses : goal.returns-clause-refuses
+returns-clause-refuses g c =
+    rw (← c.self.view_is)
+    (AnswersEntry-refusal (g.Q.Equivalent.equivalent c.args.query.now) c.self.inside.shard.state
+    g.F.FnMut _ c.args.callback.now _ _ _ c.entry_or_placeholder.result _ _
+    c.entry_or_placeholder.ensures.answers)
+
 pub returns-clause-refused : goal.returns-clause-refused
 returns-clause-refused g c =
-    AnswersEntry-refusal g.F.FnMut _ (g.Q.Equivalent.equivalent c.args.query.now)
-    c.args.callback.now c.self.inside.shard.state _ _ _ c.entry_or_placeholder.result _ _
-    c.entry_or_placeholder.ensures.answers
+    IfErr-is _ _ (RefusesLoad-load (g.Q.Equivalent.equivalent c.args.query.now)
+    c.self.inside.shard.state) c.entry_or_placeholder.result
+    (AnswersEntry-refusal (g.Q.Equivalent.equivalent c.args.query.now) c.self.inside.shard.state
+    g.F.FnMut _ c.args.callback.now _ _ _ c.entry_or_placeholder.result _ _
+    c.entry_or_placeholder.ensures.answers)

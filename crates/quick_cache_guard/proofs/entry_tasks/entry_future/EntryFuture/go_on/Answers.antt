@@ -38,3 +38,19 @@ pub returns-in-Ready-None-clause-again : goal.returns-in-Ready-None-clause-again
 returns-in-Ready-None-clause-again g c =
     let query : c.wait.new.self.query ≡ c.args.self.now.query = search rules in
     rw query at c.come-in-Ready-None.ensures.again
+
+-- and whoever is refused
+pub returns-in-Looks-clause-cause : goal.returns-in-Looks-clause-cause
+returns-in-Looks-clause-cause g c = λ _.
+    let query : c.self.inside.query.now ≡ c.args.self.now.query = search rules in
+    rw query at c.come.ensures.cause
+
+pub returns-in-Ready-Some-clause-cause : goal.returns-in-Ready-Some-clause-cause
+returns-in-Ready-Some-clause-cause g c = λ _.
+    let query : c.self.inside.query.now ≡ c.args.self.now.query = search rules in
+    rw query at (rw c.in-Ready-Some.field-0-is at c.in-Ready-Some.ensures.cause)
+
+pub returns-in-Ready-None-clause-cause : goal.returns-in-Ready-None-clause-cause
+returns-in-Ready-None-clause-cause g c = λ _.
+    let query : c.wait.new.self.query ≡ c.args.self.now.query = search rules in
+    rw query at c.come-in-Ready-None.ensures.cause

@@ -3,8 +3,8 @@ use Rattle.std.specs.Int.NonZero.{non_zero_u32_get as number}
 use Rattle.std.specs.Iterator.{size}
 use Rattle.quick_cache_shard.specs.WalksFrom.{number_or_zero}
 use Rattle.quick_cache_sync.specs.Shards.{Division}
-use Rattle.quick_cache_sync.specs.Walks.{ComesTo, tokens_ahead}
-use Rattle.quick_cache_sync.proofs.WalkLemmas.{ComesTo-next}
+use Rattle.quick_cache_sync.specs.Walks.{ComesTo, EndsUpTo, tokens_ahead}
+use Rattle.quick_cache_sync.proofs.WalkLemmas.{ComesTo-next, EndsUpTo-first, EndsUpTo-next}
 use Rattle.quick_cache_sync.proofs.calls.walks.DrainIterator.next.Goals as goal
 
 -- a later token of the shard is nearer to the end
@@ -22,7 +22,8 @@ farther : (shards first began shard after index : ℕ) → shard ≡ index → i
 farther shards first began shard after index at below ahead = omega (arith, at, below, ahead)
 
 pub loop-index-init : goal.loop-index-init
-loop-index-init g c = (refl, refl, omega arith, inl (refl, refl))
+loop-index-init g c = (refl, refl, omega arith, inl (refl, refl), EndsUpTo-first g.L.Lifecycle
+    g.K.PartialEq.eq g.We g.B (c.args.self.now.shard, c.args.self.now.after))
 
 pub returns-in-Some-clause-steps : goal.returns-in-Some-clause-steps
 returns-in-Some-clause-steps g c =
@@ -41,6 +42,9 @@ returns-in-Some-clause-steps g c =
         },
       ),
       c.in-Some.ensures.fits,
+      subst (λ shard. EndsUpTo g.L.Lifecycle g.K.PartialEq.eq g.We g.B
+          (c.args.self.now.shard, c.args.self.now.after) shard) invariant.1 invariant.4,
+      tt,
     )
 
 -- the token is above the last one
@@ -62,7 +66,7 @@ returns-in-Some-clause-goes g c =
       rests = λ _. tt;
     }
 
--- the next shard begins anew
+-- the next shard begins anew, and the one before had no more
 pub loop-index-preserved : goal.loop-index-preserved
 loop-index-preserved g c =
     let invariant = c.loop-index.invariant in
@@ -80,7 +84,27 @@ loop-index-preserved g c =
           (number_or_zero c.loop-index.self.after) c.loop-index.index invariant.1 below invariant.2,
       ComesTo-next (c.args.self.now.shard, c.args.self.now.after) c.loop-index.self.shard
           (number_or_zero c.loop-index.self.after) c.loop-index.index invariant.1 invariant.3,
+      EndsUpTo-next g.L.Lifecycle g.K.PartialEq.eq g.We g.B
+          (c.args.self.now.shard, c.args.self.now.after) c.loop-index.self.shard
+          (number_or_zero c.loop-index.self.after) c.loop-index.index invariant.1 invariant.3
+          (record {
+        shard = c.deref_mut.result.now;
+        kept = c.in-None.ensures.kept;
+        holds = c.in-None.ensures.takes.0;
+      }) invariant.4,
     )
 
+-- behind the last shard it ends
 pub returns-clause-steps : goal.returns-clause-steps
-returns-clause-steps g c = (tt, tt)
+returns-clause-steps g c = (
+  tt,
+  tt,
+  c.loop-index.invariant.4,
+  omega (
+    arith,
+    c.loop-index-test.false,
+    c.loop-index.invariant.1,
+    c.len-index-end.ensures,
+    ap (λ (d : Division _). d.shards) c.cache.view_is,
+  ),
+)

@@ -1,13 +1,15 @@
-use Rattle.std.proofs.Common.{Ok, refl, subst, inl}
+use Rattle.std.proofs.Common.{Ok, None, ap, refl, subst, inl, arith}
 use Rattle.std.specs.Prelude.{IfSome}
 use Rattle.quick_cache_shard.specs.WalksFrom.{number_or_zero}
 use Rattle.quick_cache_locked.specs.Walks.{ShowsNext}
-use Rattle.quick_cache_sync.specs.Walks.{ComesTo}
-use Rattle.quick_cache_sync.proofs.WalkLemmas.{ComesTo-next}
+use Rattle.quick_cache_sync.specs.Shards.{Division}
+use Rattle.quick_cache_sync.specs.Walks.{ComesTo, EndsUpTo}
+use Rattle.quick_cache_sync.proofs.WalkLemmas.{ComesTo-next, EndsUpTo-first, EndsUpTo-next}
 use Rattle.quick_cache_sync.proofs.calls.walks.IterIterator.next.Goals as goal
 
 pub loop-index-init : goal.loop-index-init
-loop-index-init g c = (refl, inl (refl, refl))
+loop-index-init g c = (refl, refl, inl (refl, refl), EndsUpTo-first g.L.Lifecycle g.K.PartialEq.eq
+    g.We g.B (c.args.self.now.shard, c.args.self.now.after))
 
 -- the pair is one of the shard behind the lock
 pub returns-in-Ok-Some-clause-steps : goal.returns-in-Ok-Some-clause-steps
@@ -18,7 +20,7 @@ returns-in-Ok-Some-clause-steps g c =
         c.in-Ok-Some.token,
         after,
         subst (λ shard. ComesTo (c.args.self.now.shard, c.args.self.now.after) shard after)
-            invariant.0 invariant.1,
+            invariant.1 invariant.2,
         refl,
         record {
           shard = _;
@@ -30,19 +32,45 @@ returns-in-Ok-Some-clause-steps g c =
       λ keys clones.
           subst (λ f. IfSome f (λ shown. g.L.Lifecycle.fits shown.1 shown.2))
           c.in-Ok-Some.field-0-is (c.in-Ok-Some.ensures.fits keys clones),
+      subst (λ shard. EndsUpTo g.L.Lifecycle g.K.PartialEq.eq g.We g.B
+          (c.args.self.now.shard, c.args.self.now.after) shard) invariant.1 invariant.3,
+      tt,
     )
 
+-- a step that is refused is refused for memory
 pub returns-in-Err-clause-steps : goal.returns-in-Err-clause-steps
-returns-in-Err-clause-steps g c = (tt, λ keys clones. tt)
+returns-in-Err-clause-steps g c =
+    (tt, λ keys clones. tt, c.loop-index.invariant.3, c.in-Err.ensures.shows)
 
--- the next shard begins anew
+-- the next shard begins anew, and the one before had no more
 pub loop-index-preserved : goal.loop-index-preserved
-loop-index-preserved g c = (
-  refl,
-  ComesTo-next (c.args.self.now.shard, c.args.self.now.after) c.loop-index.self.shard
-      (number_or_zero c.loop-index.self.after) c.loop-index.index c.loop-index.invariant.0
-      c.loop-index.invariant.1,
-)
+loop-index-preserved g c =
+    let after = number_or_zero c.loop-index.self.after in
+    let old = (c.args.self.now.shard, c.args.self.now.after) in
+    let invariant = c.loop-index.invariant in (
+      invariant.0,
+      refl,
+      ComesTo-next old c.loop-index.self.shard after c.loop-index.index invariant.1 invariant.2,
+      EndsUpTo-next g.L.Lifecycle g.K.PartialEq.eq g.We g.B old c.loop-index.self.shard after
+          c.loop-index.index invariant.1 invariant.2 (record {
+        shard = _;
+        kept = c.in-Ok-None.ensures.kept;
+        holds = subst (λ f. ShowsNext c.deref-in-loop-index.result.now after g.K.Clone.is_clone g.V.Clone.is_clone (Ok f))
+            c.in-Ok-None.field-0-is c.in-Ok-None.ensures.shows;
+      }) invariant.3,
+    )
 
+-- behind the last shard it ends
 pub returns-clause-steps : goal.returns-clause-steps
-returns-clause-steps g c = (tt, λ keys clones. tt)
+returns-clause-steps g c = (
+  tt,
+  λ keys clones. tt,
+  c.loop-index.invariant.3,
+  omega (
+    arith,
+    c.loop-index-test.false,
+    c.loop-index.invariant.1,
+    c.len-index-end.ensures,
+    ap (λ (d : Division _). d.shards) c.cache.view_is,
+  ),
+)
