@@ -94,7 +94,12 @@ module _ {K V We B L S : Type 0} (life : lifecycle.Ghosts L K V S) (equal : K �
   Sees-shows : (value clone : V) → Sees stands_for shard.state (λ item. item.value) (Some value)
       → is_clone value clone → ShowsClone life equal is_clone stands_for clone shard
   Sees-shows _ clone (Sees.is_there place before item after there) cloned = record {
-    kept = kept; place = place; before = before; item = item; after = after; there = there;
+    kept = kept;
+    place = place;
+    before = before;
+    item = item;
+    after = after;
+    there = there;
     cloned = cloned;
   }
 
@@ -102,7 +107,12 @@ module _ {K V We B L S : Type 0} (life : lifecycle.Ghosts L K V S) (equal : K �
       → LooksUp stands_for shard.state (λ item. item.value) (Some value) new
       → is_clone value clone → ShowsClone life equal is_clone stands_for clone shard
   LooksUp-shows _ clone _ (LooksUp.hit place before item after there) cloned = record {
-    kept = kept; place = place; before = before; item = item; after = after; there = there;
+    kept = kept;
+    place = place;
+    before = before;
+    item = item;
+    after = after;
+    there = there;
     cloned = cloned;
   }
 

@@ -1,6 +1,7 @@
 -- A walk that comes to the end of a shard.
-use Rattle.std.proofs.Common.{◌≡◌, ℕ, ◌+◌, ◌<◌, ◌⊎◌, Bool, refl, inl, inr, arith, subst, sym, ◌∙◌}
+use Rattle.std.proofs.Common.{◌≡◌, ℕ, ◌+◌, ◌<◌, Bool, refl, inl, inr, arith, subst, sym, ◌∙◌}
 use Rattle.quick_cache_model.specs.declared.terms.lifecycle.Lifecycle as lifecycle
+use Rattle.std.proofs.lemmas.Bool.{cases_lt}
 use Rattle.quick_cache_shard.specs.PlaceWalks.{EndsAt}
 use Rattle.quick_cache_shard.specs.Shard.{Shard}
 use Rattle.quick_cache_locked.specs.Locked.{FromSome}
@@ -22,10 +23,6 @@ ComesTo-same old shard first second (inr later) (inl here) =
     absurd (omega (arith, here.0, later.0))
 ComesTo-same old shard first second (inr later) (inr also) = later.1 ∙ sym also.1
 
--- a number below the next one is below this one, or it is this one
-below-next : (place index : ℕ) → place < index + 1 → (place < index) ⊎ (place ≡ index)
-below-next place index below = omega (arith, below)
-
 module _ {K V L S : Type 0} (life : lifecycle.Ghosts L K V S) (equal : K → K → Bool)
     (We B : Type 0) (old : Standing) where
   -- no shard is passed where it stands
@@ -38,9 +35,10 @@ module _ {K V L S : Type 0} (life : lifecycle.Ghosts L K V S) (equal : K → K �
       → FromSome life equal (λ (shard : Shard K V We B L). EndsAt shard.places after)
       → EndsUpTo life equal We B old shard → EndsUpTo life equal We B old (index + 1)
   EndsUpTo-next shard after index at comes ended before place behind came below =
-      elim below-next place index below [
+      elim (cases_lt place index) [
         | inl earlier ↦ before place behind came (omega (arith, at, earlier))
-        | inr here ↦ subst (λ number. FromSome life equal
+        | inr later ↦
+            let here : place ≡ index = omega (arith, below, later) in subst (λ number. FromSome life equal
             (λ (shard : Shard K V We B L). EndsAt shard.places number))
             (ComesTo-same old shard after behind comes
             (subst (λ number. ComesTo old number behind) (here ∙ sym at) came)) ended

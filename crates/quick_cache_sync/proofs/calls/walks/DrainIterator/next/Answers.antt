@@ -22,8 +22,14 @@ farther : (shards first began shard after index : ℕ) → shard ≡ index → i
 farther shards first began shard after index at below ahead = omega (arith, at, below, ahead)
 
 pub loop-index-init : goal.loop-index-init
-loop-index-init g c = (refl, refl, omega arith, inl (refl, refl), EndsUpTo-first g.L.Lifecycle
-    g.K.PartialEq.eq g.We g.B (c.args.self.now.shard, c.args.self.now.after))
+loop-index-init g c = (
+  refl,
+  refl,
+  omega arith,
+  inl (refl, refl),
+  EndsUpTo-first g.L.Lifecycle
+      g.K.PartialEq.eq g.row.We.Denot g.row.B.Denot (c.args.self.now.shard, c.args.self.now.after),
+)
 
 pub returns-in-Some-clause-steps : goal.returns-in-Some-clause-steps
 returns-in-Some-clause-steps g c =
@@ -42,7 +48,7 @@ returns-in-Some-clause-steps g c =
         },
       ),
       c.in-Some.ensures.fits,
-      subst (λ shard. EndsUpTo g.L.Lifecycle g.K.PartialEq.eq g.We g.B
+      subst (λ shard. EndsUpTo g.L.Lifecycle g.K.PartialEq.eq g.row.We.Denot g.row.B.Denot
           (c.args.self.now.shard, c.args.self.now.after) shard) invariant.1 invariant.4,
       tt,
     )
@@ -84,14 +90,14 @@ loop-index-preserved g c =
           (number_or_zero c.loop-index.self.after) c.loop-index.index invariant.1 below invariant.2,
       ComesTo-next (c.args.self.now.shard, c.args.self.now.after) c.loop-index.self.shard
           (number_or_zero c.loop-index.self.after) c.loop-index.index invariant.1 invariant.3,
-      EndsUpTo-next g.L.Lifecycle g.K.PartialEq.eq g.We g.B
+      EndsUpTo-next g.L.Lifecycle g.K.PartialEq.eq g.row.We.Denot g.row.B.Denot
           (c.args.self.now.shard, c.args.self.now.after) c.loop-index.self.shard
           (number_or_zero c.loop-index.self.after) c.loop-index.index invariant.1 invariant.3
           (record {
-        shard = c.deref_mut.result.now;
-        kept = c.in-None.ensures.kept;
-        holds = c.in-None.ensures.takes.0;
-      }) invariant.4,
+            shard = c.deref_mut.result.now;
+            kept = c.in-None.ensures.kept;
+            holds = c.in-None.ensures.takes.0;
+          }) invariant.4,
     )
 
 -- behind the last shard it ends

@@ -12,4 +12,4 @@ invariant-loop-index g l =
     ≤ size (tokens_ahead l.fn.self.cache.now.shards l.fn.self.shard
     (number_or_zero l.fn.self.after)))
     × ComesTo (l.fn.self.shard, l.fn.self.after) l.self.shard (number_or_zero l.self.after)
-    × EndsUpTo g.L.Lifecycle g.K.PartialEq.eq g.We g.B (l.fn.self.shard, l.fn.self.after) l.self.shard
+    × EndsUpTo g.L.Lifecycle g.K.PartialEq.eq g.row.We.Denot g.row.B.Denot (l.fn.self.shard, l.fn.self.after) l.self.shard

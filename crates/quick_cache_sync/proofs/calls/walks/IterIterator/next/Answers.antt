@@ -3,13 +3,18 @@ use Rattle.std.specs.Prelude.{IfSome}
 use Rattle.quick_cache_shard.specs.WalksFrom.{number_or_zero}
 use Rattle.quick_cache_locked.specs.Walks.{ShowsNext}
 use Rattle.quick_cache_sync.specs.Shards.{Division}
-use Rattle.quick_cache_sync.specs.Walks.{ComesTo, EndsUpTo}
+use Rattle.quick_cache_sync.specs.Walks.{ComesTo, EndsUpTo, Standing}
 use Rattle.quick_cache_sync.proofs.WalkLemmas.{ComesTo-next, EndsUpTo-first, EndsUpTo-next}
 use Rattle.quick_cache_sync.proofs.calls.walks.IterIterator.next.Goals as goal
 
 pub loop-index-init : goal.loop-index-init
-loop-index-init g c = (refl, refl, inl (refl, refl), EndsUpTo-first g.L.Lifecycle g.K.PartialEq.eq
-    g.We g.B (c.args.self.now.shard, c.args.self.now.after))
+loop-index-init g c = (
+  refl,
+  refl,
+  inl (refl, refl),
+  EndsUpTo-first g.L.Lifecycle g.K.PartialEq.eq
+      g.row.We.Denot g.row.B.Denot (c.args.self.now.shard, c.args.self.now.after),
+)
 
 -- the pair is one of the shard behind the lock
 pub returns-in-Ok-Some-clause-steps : goal.returns-in-Ok-Some-clause-steps
@@ -32,7 +37,7 @@ returns-in-Ok-Some-clause-steps g c =
       λ keys clones.
           subst (λ f. IfSome f (λ shown. g.L.Lifecycle.fits shown.1 shown.2))
           c.in-Ok-Some.field-0-is (c.in-Ok-Some.ensures.fits keys clones),
-      subst (λ shard. EndsUpTo g.L.Lifecycle g.K.PartialEq.eq g.We g.B
+      subst (λ shard. EndsUpTo g.L.Lifecycle g.K.PartialEq.eq g.row.We.Denot g.row.B.Denot
           (c.args.self.now.shard, c.args.self.now.after) shard) invariant.1 invariant.3,
       tt,
     )
@@ -46,18 +51,18 @@ returns-in-Err-clause-steps g c =
 pub loop-index-preserved : goal.loop-index-preserved
 loop-index-preserved g c =
     let after = number_or_zero c.loop-index.self.after in
-    let old = (c.args.self.now.shard, c.args.self.now.after) in
+    let old : Standing = (c.args.self.now.shard, c.args.self.now.after) in
     let invariant = c.loop-index.invariant in (
       invariant.0,
       refl,
       ComesTo-next old c.loop-index.self.shard after c.loop-index.index invariant.1 invariant.2,
-      EndsUpTo-next g.L.Lifecycle g.K.PartialEq.eq g.We g.B old c.loop-index.self.shard after
+      EndsUpTo-next g.L.Lifecycle g.K.PartialEq.eq g.row.We.Denot g.row.B.Denot old c.loop-index.self.shard after
           c.loop-index.index invariant.1 invariant.2 (record {
-        shard = _;
-        kept = c.in-Ok-None.ensures.kept;
-        holds = subst (λ f. ShowsNext c.deref-in-loop-index.result.now after g.K.Clone.is_clone g.V.Clone.is_clone (Ok f))
-            c.in-Ok-None.field-0-is c.in-Ok-None.ensures.shows;
-      }) invariant.3,
+            shard = _;
+            kept = c.in-Ok-None.ensures.kept;
+            holds = subst (λ f. ShowsNext c.deref-in-loop-index.result.now after g.K.Clone.is_clone g.V.Clone.is_clone (Ok f))
+                c.in-Ok-None.field-0-is c.in-Ok-None.ensures.shows;
+          }) invariant.3,
     )
 
 -- behind the last shard it ends

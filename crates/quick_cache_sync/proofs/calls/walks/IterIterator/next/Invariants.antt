@@ -7,4 +7,4 @@ use Rattle.quick_cache_sync.proofs.calls.walks.IterIterator.next.Given as goal
 abbrev pub invariant-loop-index : goal.invariant-loop-index
 invariant-loop-index g l = (l.self.cache ≡ l.fn.self.cache) × (l.self.shard ≡ l.index)
     × ComesTo (l.fn.self.shard, l.fn.self.after) l.self.shard (number_or_zero l.self.after)
-    × EndsUpTo g.L.Lifecycle g.K.PartialEq.eq g.We g.B (l.fn.self.shard, l.fn.self.after) l.self.shard
+    × EndsUpTo g.L.Lifecycle g.K.PartialEq.eq g.row.We.Denot g.row.B.Denot (l.fn.self.shard, l.fn.self.after) l.self.shard
