@@ -1,6 +1,9 @@
 -- What a lock keeps: a shard, and the history that it stands for.
 use Rattle.std.specs.Prelude.{◌≡◌, ℕ, Bool, List, Option}
+use Rattle.std.specs.declared.alloc.Global.{Global}
 use Rattle.quick_cache_model.specs.CacheState.{CacheState, UpToOrder}
+use Rattle.quick_cache_model.specs.declared.calls.call.Call.{Call}
+use Rattle.quick_cache_model.specs.declared.calls.reply.Reply.{Reply}
 use Rattle.quick_cache_locked.specs.Touches.{any_touches}
 use Rattle.quick_cache_shard.specs.Predicates.{RemovesAsked}
 use Rattle.quick_cache_shard.specs.Shard.{Shard, terms_of}
@@ -8,7 +11,7 @@ use Rattle.quick_cache_shard.specs.Steps.{Goes, steady_in, hooks_in, rules_in}
 use Rattle.quick_cache_history.specs.declared.entry.Entry.{Entry}
 use Rattle.quick_cache_history.specs.Histories.{first_in, calls_of}
 use Rattle.quick_cache_history.specs.Pasts.{Known}
-use Rattle.quick_cache_history.specs.Runs.{IsStep, Lead}
+use Rattle.quick_cache_history.specs.Runs.{IsMade, IsStep, Lead}
 
 -- the shard, and a beginning of the history in which all its calls are
 pub record KeptShard (K V We B L : Type 0) : Type 0 where
@@ -38,6 +41,13 @@ module _ {K V We B L S : Type 0} (goes : Goes K V We B L S) (is_default : S → 
     pub stood : StandsAtEnd number log old
     pub step : steady_in goes old → IsStep (rules_in goes any_touches old) equal (hooks_in goes old)
         is_default old.state entry left.state
+
+  -- This shard made this call with this reply, as one of its steps.
+  pub record Makes (old : Shard K V We B L) (call : Call K V Bool) (reply : Reply K V Global)
+      (new : Shard K V We B L) : Type 0 where
+    pub same : terms_of new ≡ terms_of old
+    pub step : steady_in goes old → IsMade (rules_in goes any_touches old) equal (hooks_in goes old)
+        is_default old.state call reply new.state
 
   -- There is such a shard, and this holds of it.
   pub record AtEnd (number : ℕ) (log : List (Entry K V)) (P : Shard K V We B L → Type 0) : Type 0

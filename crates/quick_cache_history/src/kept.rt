@@ -1,5 +1,5 @@
 //! A shard behind its lock, with the history that it stands for.
-ghost use Rattle.std.specs.Prelude.{◌≡◌, ◌++◌, ◌∷◌, [], Ok, None, Some, true, is_some, IsErr, OnOk, OnErr, IfOk, IfErr, IfSome};
+ghost use Rattle.std.specs.Prelude.{◌≡◌, ◌++◌, ◌∷◌, [], Option, true, is_some, IsErr, OnOk, OnErr, IfOk, IfErr};
 ghost use Rattle.std.specs.Fn.{FnOnceReturnsAt};
 ghost use mathlib.Core.List.{IsPrefix};
 ghost use Rattle.quick_cache_model.specs.declared.calls.call.Call.{Call};
@@ -8,12 +8,14 @@ ghost use Rattle.quick_cache_model.specs.declared.refusal.Refusal.{Refusal};
 ghost use Rattle.quick_cache_locked.specs.Asked.{MayBeAskedOfFittingUnder};
 ghost use Rattle.quick_cache_locked.specs.Counts.{empty_of};
 ghost use Rattle.quick_cache_locked.specs.Peeks.{Peeks};
+ghost use Rattle.quick_cache_history.specs.declared.choice.Choice.{Choice};
 ghost use Rattle.quick_cache_history.specs.declared.entry.Entry.{Entry};
 ghost use Rattle.quick_cache_history.specs.Histories.{calls_of, first_in, is_in, is_of, next_of, reply_of_replace};
-ghost use Rattle.quick_cache_history.specs.KeptShards.{HasMade, LeftByAsking, StandsAtEnd};
-ghost use Rattle.quick_cache_history.specs.Loads.{InsertsFirst, Looks};
+ghost use Rattle.quick_cache_history.specs.KeptShards.{HasMade, LeftByAsking, Makes, StandsAtEnd};
+ghost use Rattle.quick_cache_history.specs.Loads.{Enters, MayShow};
 ghost use Rattle.quick_cache_history.specs.Seats.{Extends};
 
+use crate::choice::{Choice, Entered};
 use crate::entry::Entry;
 use crate::head::Head;
 use crate::law::{
@@ -174,6 +176,9 @@ impl<
         ensures run { OnOk result (StandsAtEnd
             ⟦<LockedShard<K, V, We, B, L, A> as Ruled>⟧.goes L.RequestState.is_default K.eq
             head.now.number seat.new.seen self.new.shard) }
+        ensures makes { OnOk result (Makes ⟦<LockedShard<K, V, We, B, L, A> as Ruled>⟧.goes
+            L.RequestState.is_default K.eq self.old.shard (Call.Insert key value) Reply.Done
+            self.new.shard) }
         ensures back { IfErr result (λ back. (back.0 ≡ key) × (back.1 ≡ value)) }
         ensures refused { OnErr result (seat.new ≡ seat.old) }
     {
@@ -201,8 +206,14 @@ impl<
     ) -> Option<(K, V)>
         ensures extends { Extends seat.old (Entry.Made seat.old.turn seat.new.turn head.now.number
             (Call.Remove key.now) (Reply.Pair result)) seat.new }
+        ensures next { calls_of head.now.number seat.new.seen
+            ≡ calls_of head.now.number self.old.known.log ++ Entry.Made seat.old.turn seat.new.turn
+            head.now.number (Call.Remove key.now) (Reply.Pair result) ∷ [] }
         ensures run { StandsAtEnd ⟦<LockedShard<K, V, We, B, L, A> as Ruled>⟧.goes
             L.RequestState.is_default K.eq head.now.number seat.new.seen self.new.shard }
+        ensures makes { Makes ⟦<LockedShard<K, V, We, B, L, A> as Ruled>⟧.goes
+            L.RequestState.is_default K.eq self.old.shard (Call.Remove key.now) (Reply.Pair result)
+            self.new.shard }
     {
         self.past.meet(rt, head);
         let pair = self.shard.remove(key);
@@ -339,40 +350,43 @@ impl<
         self.shard.get(query)
     }
 
-    /// Inserts a pair whose value fits its key where nothing stands under the key, with this request
-    /// state. Else it gives a clone of the value that stands there.
+    /// Shows the callback a clone of the value under the key, and makes the call that it chooses, with
+    /// this request state.
     ///
     /// # Errors
     ///
     /// `Memory` where the clone failed, or why the shard refused the pair: no call was made then.
-    pub(crate) fn insert_first<R: Wait>(
+    pub(crate) fn entry<R: Wait, T: Drop, F: FnOnce(Option<V>) -> Choice<V, T>>(
         &mut self,
         rt: &R,
         head: &Head<K, V, J>,
         seat: &mut Seat<K, V, J>,
         key: K,
-        value: V,
+        choose: F,
         state: &mut L::RequestState,
-    ) -> Result<Option<V>, Refusal>
-        requires fits { L.fits key value }
+    ) -> Result<Entered<K, V, T>, Refusal>
         requires fresh { L.RequestState.is_default state.old }
-        ensures stood { IfOk result (λ found. IfSome found (λ own. Looks
-            ⟦<LockedShard<K, V, We, B, L, A> as Ruled>⟧.goes L.RequestState.is_default K.eq
-            V.is_clone head.now.number key (Some own) seat.old seat.new)) }
-        ensures put { result ≡ Ok None → InsertsFirst
-            ⟦<LockedShard<K, V, We, B, L, A> as Ruled>⟧.goes L.RequestState.is_default K.eq
-            V.is_clone head.now.number key value seat.old seat.new }
+        requires callable { (found : Option V) → MayShow L.fits (K.eq key) V.is_clone found
+            → F.pre choose found }
+        requires fits { (found : Option V) (value : V) → MayShow L.fits (K.eq key) V.is_clone found
+            → F.post choose found (Choice.Insert value) → L.fits key value }
+        ensures enters { IfOk result (Enters ⟦<LockedShard<K, V, We, B, L, A> as Ruled>⟧.goes
+            L.RequestState.is_default K.eq V.is_clone head.now.number key
+            (λ found chosen. F.post choose found chosen) seat.old seat.new) }
         ensures longer { IsErr result → IsPrefix seat.old.seen seat.new.seen }
         ensures refused { IsErr result → seat.new ≡ record seat.old { seen = seat.new.seen } }
     {
-        match self.look(rt, head, seat).peek(&key) {
-            Ok(Some(own)) => return Ok(Some(own)),
-            Ok(None) => {}
+        let found = match self.look(rt, head, seat).peek(&key) {
+            Ok(found) => found,
             Err(refusal) => return Err(refusal),
-        }
-        match self.insert(rt, head, seat, key, value, state) {
-            Ok(()) => return Ok(None),
-            Err((_, _, refusal)) => return Err(refusal),
+        };
+        match choose(found) {
+            Choice::Keep(told) => Ok(Entered::Kept(told)),
+            Choice::Remove => Ok(Entered::Removed(self.remove(rt, head, seat, &key))),
+            Choice::Insert(value) => match self.insert(rt, head, seat, key, value, state) {
+                Ok(()) => Ok(Entered::Inserted),
+                Err((_, _, refusal)) => Err(refusal),
+            },
         }
     }
 }

@@ -11,13 +11,15 @@
 //! joins what two have seen. So nobody is shown less than it has seen, and each sees its own writes.
 //!
 //! Writes are `insert`, `replace`, `remove`, `remove_if` and `clear`, which is a call of each shard in
-//! turn; looks are `get`, `peek`, `contains_key` and `len`. `get_or_insert_with` looks, loads under no
-//! lock, and is an insert where nothing stands by then: nobody waits for a load, so that two callers
-//! may load one key. Not said: which of two calls came first in time, where their seats never met;
-//! that a seat's calls are all that its thread made, since each thread may make seats; and that a call
-//! returns.
+//! turn; looks are `get`, `peek`, `contains_key` and `len`. `entry` looks, and is then a removal, an
+//! insert or no call, as a callback chooses by what it is shown, under one lock. `get_or_insert_with`
+//! looks, loads under no lock, and is an insert where nothing stands by then: nobody waits for a load,
+//! so that two callers may load one key. Not said: which of two calls came first in time, where their
+//! seats never met; that a seat's calls are all that its thread made, since each thread may make
+//! seats; and that a call returns.
 #![tactic(auto)]
 
+mod choice;
 mod entry;
 mod head;
 mod history;
@@ -28,6 +30,7 @@ mod recorded;
 mod seat;
 mod turn;
 
+pub use choice::{Choice, Entered};
 pub use entry::Entry;
 pub use history::History;
 pub use law::{Law, Naming};

@@ -2,7 +2,7 @@
 ghost use Rattle.std.specs.Prelude.{◌≡◌};
 
 use crate::two_seats::Numbers;
-use quick_cache_history::{History, Naming, Recorded};
+use quick_cache_history::{Choice, Entered, History, Naming, Recorded};
 use quick_cache_model::{DefaultHashBuilder, Refusal, UnitWeighter};
 use quick_cache_options::OptionsBuilder;
 use quick_cache_sync::DefaultLifecycle;
@@ -60,12 +60,56 @@ fn load<J: Naming, R: Wait>(
     Ok([first, again, failed, late])
 }
 
-/// The same, and what is loaded then, of a cache of this history.
+/// What an entry call is to do.
+#[derive(Clone, Copy)]
+enum Ask {
+    Show,
+    CountUp,
+    Take,
+}
+
+/// Does so by what stands there.
+fn choose(ask: Ask, found: Option<u64>) -> Choice<u64, Option<u64>> {
+    match ask {
+        Ask::Show => Choice::Keep(found),
+        Ask::CountUp => Choice::Insert(found.unwrap_or(0).saturating_add(1)),
+        Ask::Take => Choice::Remove,
+    }
+}
+
+/// Makes entry calls of one key, and tells a digit of each: the value that was shown, 5 where one was
+/// put in, and 6 and the value where it was taken out, or 6.
+fn enter<J: Naming, R: Wait>(rt: &R, numbers: &Numbers<J>) -> Result<u64, Refusal> {
+    let mut seat = numbers.seat();
+    let mut told: u64 = 0;
+    for ask in [
+        Ask::Show,
+        Ask::CountUp,
+        Ask::CountUp,
+        Ask::Show,
+        Ask::Take,
+        Ask::Take,
+        Ask::Show,
+    ] {
+        let digit = match numbers.entry(rt, &mut seat, 50, |found| choose(ask, found))? {
+            Entered::Kept(found) => found.unwrap_or(0),
+            Entered::Inserted => 5,
+            Entered::Removed(pair) => match pair {
+                Some((_, value)) => value.saturating_add(6),
+                None => 6,
+            },
+        };
+        told = told.wrapping_mul(10).wrapping_add(digit);
+    }
+    Ok(told)
+}
+
+/// The same, what is loaded then, and what entry calls come to, of a cache of this history.
 fn told<J: Naming, R: Wait + Abort>(
     rt: &R,
     alloc: Global,
     history: History<u64, u64>,
-) -> Result<(Told, [Result<u64, u64>; 4]), Fail>
+) -> Result<(Told, [Result<u64, u64>; 4], u64), Fail>
     requires { history ≡ J.book }
 {
     let numbers: Numbers<J> = Recorded::new(
@@ -75,7 +119,11 @@ fn told<J: Naming, R: Wait + Abort>(
         DefaultHashBuilder::new(),
         DefaultLifecycle::new(),
     )?;
-    Ok((row(rt, &numbers)?, load(rt, &numbers)?))
+    Ok((
+        row(rt, &numbers)?,
+        load(rt, &numbers)?,
+        enter(rt, &numbers)?,
+    ))
 }
 
 #[test]
@@ -85,7 +133,7 @@ fn each_call_acts_and_answers(rt: HostRuntime) -> Result<(), Fail> {
         .estimated_items_capacity(1000)
         .weight_capacity(1000)
         .shards(4);
-    let ((there, lengths, value), loaded) = told::<Brand, _>(
+    let ((there, lengths, value), loaded, entered) = told::<Brand, _>(
         &rt,
         rt.alloc(),
         History::new(options.build()?),
@@ -94,5 +142,7 @@ fn each_call_acts_and_answers(rt: HostRuntime) -> Result<(), Fail> {
     expect_eq!(rt; lengths, [9, 0]);
     expect_eq!(rt; value, Some(100));
     expect_eq!(rt; loaded, [Ok(10), Ok(10), Err(20), Ok(21)]);
+    // Nothing stood there, then 1, then 2, which was taken out.
+    expect_eq!(rt; entered, 552860);
     Ok(())
 }

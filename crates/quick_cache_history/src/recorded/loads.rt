@@ -1,9 +1,11 @@
-//! Values that are loaded where nothing stands.
-ghost use Rattle.std.specs.Prelude.{◌≡◌, Ok, Err, None, Some, IsErr, IfOk, IfErr, IfSome};
+//! Entry calls, and values that are loaded where nothing stands.
+ghost use Rattle.std.specs.Prelude.{◌≡◌, Ok, Err, Option, IsErr, IfOk, IfErr};
 ghost use mathlib.Core.List.{IsPrefix};
-ghost use Rattle.quick_cache_history.specs.Loads.{Gives, InsertsFirst, Looks};
+ghost use Rattle.quick_cache_history.specs.declared.choice.Choice.{Choice};
+ghost use Rattle.quick_cache_history.specs.Loads.{Enters, Gives, KeepsOrInserts, MayShow};
 ghost use Rattle.quick_cache_history.specs.Rows.{shard_of};
 
+use crate::choice::{Choice, Entered};
 use crate::law::Naming;
 use crate::recorded::Recorded;
 use crate::seat::Seat;
@@ -22,21 +24,35 @@ impl<
     J: Naming,
     A: Allocator,
 > Recorded<K, V, We, B, L, J, A> {
-    /// Inserts a pair where nothing stands under its key, or gives a clone of the value that does.
-    fn insert_first<R: Wait>(
+    /// Shows the callback a clone of the value under the key, or that there is none, and does as it
+    /// chooses: what stands there stays, or goes, as by `remove`, or the value that it gives is put in,
+    /// as by `insert`, with a request state of this call. It takes the write lock of the key's shard
+    /// once, under which the clone is made, and the callback is called, once: no other call of the
+    /// shard comes between. So what two callers put in where nothing stands comes to one value, and
+    /// each caller of the shard waits for a callback that is slow; one that calls the same cache may
+    /// wait forever. To be shown is no use of the item, and nothing is counted.
+    ///
+    /// # Errors
+    ///
+    /// `Memory` where the clone failed, and then the callback was not called; or why the pair was
+    /// refused, as an `insert` of it is, and then it is dropped. No call was made then.
+    pub fn entry<R: Wait, T: Drop, F: FnOnce(Option<V>) -> Choice<V, T>>(
         &self,
         rt: &R,
         seat: &mut Seat<K, V, J>,
         key: K,
-        value: V,
-    ) -> Result<Option<V>, Refusal>
-        requires fits { L.fits key value }
-        ensures stood { IfOk result (λ found. IfSome found (λ own. Looks ⟦<Self as Ruled>⟧.goes
-            L.RequestState.is_default K.eq V.is_clone (shard_of B.BuildHasher B.Hasher.Hasher
-            self.now (K.hash_input key)) key (Some own) seat.old seat.new)) }
-        ensures put { result ≡ Ok None → InsertsFirst ⟦<Self as Ruled>⟧.goes
-            L.RequestState.is_default K.eq V.is_clone (shard_of B.BuildHasher B.Hasher.Hasher
-            self.now (K.hash_input key)) key value seat.old seat.new }
+        choose: F,
+    ) -> Result<Entered<K, V, T>, Refusal>
+        // What it is shown fits an equal key, where clones fit.
+        requires callable { (found : Option V) → MayShow L.fits (K.eq key) V.is_clone found
+            → F.pre choose found }
+        // What it puts in fits the key.
+        requires fits { (found : Option V) (value : V) → MayShow L.fits (K.eq key) V.is_clone found
+            → F.post choose found (Choice.Insert value) → L.fits key value }
+        // The key's shard showed what the callback chose by, and then made the call, if one was chosen.
+        ensures enters { IfOk result (Enters ⟦<Self as Ruled>⟧.goes L.RequestState.is_default K.eq
+            V.is_clone (shard_of B.BuildHasher B.Hasher.Hasher self.now (K.hash_input key)) key
+            (λ found chosen. F.post choose found chosen) seat.old seat.new) }
         ensures longer { IsErr result → IsPrefix seat.old.seen seat.new.seen }
         ensures refused { IsErr result → seat.new ≡ record seat.old { seen = seat.new.seen } }
     {
@@ -45,7 +61,7 @@ impl<
         place
             .lock
             .write(rt)
-            .insert_first(rt, &place.head, seat, key, value, &mut state)
+            .entry(rt, &place.head, seat, key, choose, &mut state)
     }
 
     /// The value under the key, or the one that the loader gives, which is inserted where nothing
@@ -92,9 +108,18 @@ impl<
             Ok(copy) => copy,
             Err(_) => return Err(Refusal::Memory),
         };
-        match self.insert_first(rt, seat, key, value) {
-            Ok(Some(first)) => Ok(Ok(first)),
-            Ok(None) => Ok(Ok(copy)),
+        let choose = move |found: Option<V>| -> Choice<V, V>
+            ensures { KeepsOrInserts value found result }
+        {
+            match found {
+                Some(first) => Choice::Keep(first),
+                None => Choice::Insert(value),
+            }
+        };
+        match self.entry(rt, seat, key, choose) {
+            Ok(Entered::Kept(first)) => Ok(Ok(first)),
+            Ok(Entered::Inserted) => Ok(Ok(copy)),
+            Ok(Entered::Removed(_)) => unreachable!(),
             Err(refusal) => Err(refusal),
         }
     }

@@ -13,3 +13,11 @@ add-requires-clause-made g c = rw c.made-entry.ensures.asks (record {
       c.remove-pair.new.self.state c.seat.inside.turn c.turn-next.result c.self.inside.past.shard
       c.args.key.now c.remove-pair.result c.remove-pair.ensures.removes;
 })
+
+pub returns-clause-makes : goal.returns-clause-makes
+returns-clause-makes g c = rw (← c.self.view_is) (record {
+  same = ap terms_of c.remove-pair.ensures.same;
+  step = λ steady. removes _ g.K.PartialEq.eq _ g.L.RequestState.Default.is_default c.self.inside.shard.state
+      c.remove-pair.new.self.state c.seat.inside.turn c.turn-next.result c.self.inside.past.shard
+      c.args.key.now c.remove-pair.result c.remove-pair.ensures.removes;
+})
