@@ -2,3 +2,4 @@ pub mod Looks
 pub mod Purges
 pub mod Renewals
 pub mod Loads
+pub mod Counted

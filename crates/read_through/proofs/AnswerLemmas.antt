@@ -1,7 +1,7 @@
 -- Answers, from what was loaded and from what was stored.
-use Rattle.std.proofs.Common.{◌≡◌, ℕ, Bool, IsTrue, Result, Ok, Err, IfOk, ◌∙◌, refl, sym, subst, arith}
+use Rattle.std.proofs.Common.{◌≡◌, ℕ, Bool, IsTrue, Option, Some, None, IfSome, Result, Ok, Err, IfOk, ◌∙◌, refl, sym, subst, arith}
 use Rattle.std.specs.Cmp.{IsEquivalence}
-use Rattle.quick_cache_locked.specs.Fitting.{ClonesFit}
+use Rattle.quick_cache_locked.specs.Fitting.{ClonesFit, FitsQuery}
 use Rattle.quick_cache_expiring.specs.declared.loaded.Loaded.{Loaded}
 use Rattle.read_through.specs.declared.given.Given.{Given}
 use Rattle.quick_cache_expiring.specs.Moments.{Serves, IsFresh, IsWithin}
@@ -59,6 +59,15 @@ module _ {K V : Type 0} (gives : K → ℕ → V → Type 0) (equal : K → K �
     same = laws.congr asked key source.key same ∙ source.same;
     gave = source.gave;
   }
+
+  -- so what is found and fits a key that is equal is the source's
+  pub IfSome-fits : (asked : K) (found : Option (Loaded V))
+      → IfSome found (FitsQuery (λ (key : K) (loaded : Loaded V).
+      IsOf gives equal key loaded.moment loaded.value) (equal asked))
+      → IfSome found (λ loaded. IsOf gives equal asked loaded.moment loaded.value)
+  IfSome-fits asked None fits = tt
+  IfSome-fits asked (Some loaded) fits =
+      IsOf-same asked fits.key loaded.moment loaded.value fits.stands fits.fits_key
 
   -- a clone of what the source gives is what it gives
   pub IsOf-clone : (is_clone : V → V → Type 0) → GivesClones gives is_clone → (key : K)

@@ -255,7 +255,7 @@ impl<
     }
 
     /// Counts a load, and whether it failed.
-    pub(crate) fn count_load<E>(&self, loaded: &Result<V, E>) {
+    pub(crate) fn count_load<T, E>(&self, loaded: &Result<T, E>) {
         self.loads.fetch_add(1, Ordering::SeqCst);
         if loaded.is_err() {
             self.failed_loads.fetch_add(1, Ordering::SeqCst);

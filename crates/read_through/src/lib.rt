@@ -8,6 +8,7 @@ mod future;
 mod gets;
 mod given;
 mod lives;
+mod many;
 mod pace;
 mod reading;
 

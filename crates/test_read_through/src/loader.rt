@@ -3,6 +3,7 @@
 pub mod changes;
 pub mod hundreds;
 pub mod lives;
+pub mod many;
 pub mod refused;
 pub mod rows;
 pub mod tasks;
