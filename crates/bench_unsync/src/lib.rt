@@ -122,12 +122,7 @@ fn text_of(alloc: Global, number: usize, length: usize) -> Result<String, Refusa
 
 // Inserts texts of so many bytes, half as many as there are items. Then it looks up the text of each
 // key, which is the number of one of these, and counts the hits.
-fn hits_by_texts(
-    alloc: Global,
-    items: usize,
-    keys: &[u64],
-    length: usize,
-) -> Result<u64, Refusal> {
+fn hits_by_texts(alloc: Global, items: usize, keys: &[u64], length: usize) -> Result<u64, Refusal> {
     let mut texts = Vec::new(alloc);
     let mut cache = Cache::new(alloc, items)?;
     for number in 0..items / 2 {
