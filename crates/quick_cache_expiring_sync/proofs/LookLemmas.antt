@@ -1,11 +1,10 @@
 -- Looks at entries that end, from looks at values with their ends.
-use Rattle.std.proofs.Common.{◌≡◌, ℕ, Bool, true, false, Option, Some, None, Result, Ok, Err, ap, subst, sym, ◌∙◌}
+use Rattle.std.proofs.Common.{◌≡◌, ℕ, Bool, true, Option, Some, None, Result, Ok, Err, ap, subst, sym, ◌∙◌}
 use Rattle.std.specs.Result.{IsErrAnd}
 use Rattle.std.proofs.lemmas.Result.{err_from_is_err_and}
 use Rattle.quick_cache_model.specs.declared.refusal.Refusal.{Refusal}
 use Rattle.quick_cache_model.specs.declared.terms.lifecycle.Lifecycle as lifecycle
 use Rattle.quick_cache_model.specs.CacheState.{CacheState}
-use Rattle.quick_cache_model.specs.Lookups.{Sees}
 use Rattle.quick_cache_shard.specs.Shard.{Shard}
 use Rattle.quick_cache_locked.specs.Locked.{FromSome}
 use Rattle.quick_cache_locked.specs.Fitting.{FitsQuery}
@@ -15,7 +14,7 @@ use Rattle.quick_cache_expiring.specs.declared.lasting.Lasting.{Lasting}
 use Rattle.quick_cache_expiring.specs.Entries.{AnswersAt}
 use Rattle.quick_cache_expiring.specs.Lastings.{ClonesLasting}
 use Rattle.quick_cache_expiring.specs.Lives.{lives}
-use Rattle.quick_cache_expiring_sync.specs.Looks.{FitsAt, ShowsAt, ShowsEnd, TriesAt}
+use Rattle.quick_cache_expiring_sync.specs.Looks.{FitsAt, ShowsAt, ShowsEnd}
 
 -- what holds of some shard does so in other words
 pub FromSome-map : {K V We B L S : Type 0} (life : lifecycle.Ghosts L K V S)
@@ -74,36 +73,6 @@ module _ {K V : Type 0} (test : K → Bool) (is_clone : V → V → Type 0) (now
       lives_then = ap (λ until. lives until now) cloned.1 ∙ sym (told value true said);
       fits_query = fit;
     }
-
-module _ {K V : Type 0} (test : K → Bool) (is_clone : V → V → Type 0) (now : ℕ)
-    (state : CacheState K (Lasting V)) where
-  -- what a look shows that does not wait, where that serves
-  pub TriesAt-lives : (lasting : Lasting V) → lives lasting.until now ≡ true
-      → Peeks test (ClonesLasting is_clone) state (Ok (Some lasting))
-      → TriesAt test is_clone now state (Ok (Some lasting.value))
-  TriesAt-lives lasting serves (Peeks.peeks (Some value) _ sees shown) = (
-    lasting.until,
-    PeeksIf.passes value lasting sees
-        (sym serves ∙ ap (λ until. lives until now) shown.1) shown,
-  )
-  TriesAt-lives lasting serves (Peeks.peeks None _ sees shown) = absurd shown
-
-  -- where it is over
-  pub TriesAt-over : (lasting : Lasting V) → lives lasting.until now ≡ false
-      → Peeks test (ClonesLasting is_clone) state (Ok (Some lasting))
-      → TriesAt test is_clone now state (Ok None)
-  TriesAt-over lasting over (Peeks.peeks (Some value) _ sees shown) = (
-    Miss.Failed,
-    PeeksIf.fails value sees (sym over ∙ ap (λ until. lives until now) shown.1),
-  )
-  TriesAt-over lasting over (Peeks.peeks None _ sees shown) = absurd shown
-
-  -- and where there is none
-  pub TriesAt-absent : Peeks test (ClonesLasting is_clone) state (Ok None)
-      → TriesAt test is_clone now state (Ok None)
-  TriesAt-absent (Peeks.peeks (Some value) _ sees shown) = absurd shown
-  TriesAt-absent (Peeks.peeks None _ (Sees.is_absent none) shown) =
-      (Miss.Absent, PeeksIf.is_absent none)
 
 module _ {K V : Type 0} (test : K → Bool) (is_clone : V → V → Type 0)
     (answer : Result (Option (Lasting V)) Refusal) (state : CacheState K (Lasting V)) where

@@ -2,4 +2,3 @@ pub mod Looks
 pub mod Purges
 pub mod Renewals
 pub mod Loads
-pub mod Counted

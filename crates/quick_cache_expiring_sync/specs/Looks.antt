@@ -1,11 +1,9 @@
 -- What looks at entries that end show, beside other threads.
-use Rattle.std.specs.Prelude.{◌≡◌, ◌<◌, ℕ, Bool, true, List, Option, Some, None, Result, Ok, Err, IfOk, IfSome, if◌then◌else◌, length, slice_index_or}
-use Rattle.quick_cache_model.specs.declared.terms.lifecycle.Lifecycle as lifecycle
+use Rattle.std.specs.Prelude.{◌≡◌, ℕ, Bool, true, Option, Some, None, Result, Ok, Err, IfOk, IfSome}
 use Rattle.quick_cache_model.specs.declared.refusal.Refusal.{Refusal}
 use Rattle.quick_cache_model.specs.CacheState.{CacheState}
 use Rattle.quick_cache_locked.specs.Fitting.{ClonesFit, FitsQuery}
 use Rattle.quick_cache_locked.specs.Peeks.{Miss, Peeks, PeeksIf}
-use Rattle.quick_cache_sync.specs.Many.{ShowsMany}
 use Rattle.quick_cache_expiring.specs.declared.lasting.Lasting.{Lasting}
 use Rattle.quick_cache_expiring.specs.Entries.{AnswersAt}
 use Rattle.quick_cache_expiring.specs.Lastings.{ClonesLasting, lasting_of}
@@ -24,11 +22,6 @@ module _ {K V : Type 0} (stands_for : K → Bool) (is_clone : V → V → Type 0
   ShowsAt now old (Err refusal) =
       PeeksIf stands_for (ClonesLasting is_clone) (AnswersAt now) old (Err refusal)
 
-  -- A look that doesn't wait shows so. It may be refused a clone of what is over, too.
-  abbrev pub TriesAt : (now : ℕ) → CacheState K (Lasting V) → Result (Option V) Refusal → Type 0
-  TriesAt now old (Ok shown) = ShowsAt now old (Ok shown)
-  TriesAt now old (Err refusal) = Peeks stands_for (ClonesLasting is_clone) old (Err refusal)
-
   -- a look at the end shows that of what is there, or that nothing is
   abbrev pub ShowsEnd : CacheState K (Lasting V) → Result (Option ℕ) Refusal → Type 0
   ShowsEnd old (Ok (Some until)) = (value : V)
@@ -44,23 +37,7 @@ module _ {K V : Type 0} (fits : K → Lasting V → Type 0) (stands_for : K → 
     pub fits_query : FitsQuery fits stands_for (lasting_of value until)
 
   -- where clones fit as their values do, what is shown fits so
-  abbrev pub ShowsFittingAt : {E : Type 0} → (is_clone : V → V → Type 0) → (now : ℕ)
-      → Result (Option V) E → Type 0
+  abbrev pub ShowsFittingAt : (is_clone : V → V → Type 0) → (now : ℕ)
+      → Result (Option V) Refusal → Type 0
   ShowsFittingAt is_clone now answer = ClonesFit fits (ClonesLasting is_clone)
       → IfOk answer (λ found. IfSome found (FitsAt now))
-
--- what was found, where it serves
-abbrev pub living_at : {V : Type 0} → (now : ℕ) → Option (Lasting V) → Option (Lasting V)
-living_at now None = None
-living_at now (Some lasting) = if lives lasting.until now then Some lasting else None
-
--- Of what the shards show under many queries that is answered which serves.
-pub record ShowsManyAt {Q K V L S : Type 0} (life : lifecycle.Ghosts L K (Lasting V) S)
-    (equal : K → K → Bool) (is_clone : V → V → Type 0) (stands_for : Q → K → Bool)
-    (We B : Type 0) (place_of : Q → ℕ) (now : ℕ) (queries : List Q)
-    (values : List (Option (Lasting V))) : Type 0 where
-  pub found : List (Option (Lasting V))
-  pub shows : ShowsMany life equal (ClonesLasting is_clone) stands_for queries found We B place_of
-  pub one_each : length values ≡ length found
-  pub living : (index : ℕ) → index < length values
-      → slice_index_or values index None ≡ living_at now (slice_index_or found index None)

@@ -5,7 +5,6 @@ mod gets;
 mod loads;
 mod purging;
 mod shared;
-mod tries;
 mod writes;
 
 pub use quick_cache_expiring::{ByValue, Lasting, end_of};
@@ -14,5 +13,5 @@ pub use quick_cache_model::{
 };
 pub use quick_cache_options::options::{Error, Options, OptionsBuilder};
 pub use quick_cache_stats::Stats;
-pub use quick_cache_sync::{DefaultLifecycle, LockContention, TryError};
+pub use quick_cache_sync::DefaultLifecycle;
 pub use shared::SharedExpiring;

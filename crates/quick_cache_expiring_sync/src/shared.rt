@@ -8,7 +8,6 @@ ghost use Rattle.quick_cache_locked.specs.declared.count.Count.{Count};
 ghost use Rattle.quick_cache_sync.specs.Sums.{AddsUp};
 ghost use Rattle.quick_cache_expiring.specs.declared.lasting.Lasting.{Lasting};
 ghost use Rattle.quick_cache_expiring.specs.declared.by_value.ByValue.{ByValue};
-ghost use Rattle.quick_cache_expiring_sync.specs.Counted.{CountsLooks};
 
 use quick_cache_expiring::{ByValue, Lasting};
 use quick_cache_model::{DefaultHashBuilder, Lifecycle, Refusal, UnitWeighter};
@@ -200,8 +199,6 @@ impl<
         ensures capacity { AddsUp L.Lifecycle K.eq
             (λ (shard : Shard K (Lasting V) (ByValue We) B L) shown.
             Shows Count.Capacity shard.state shown) self.now.shards result.capacity }
-        ensures looks { CountsLooks L.Lifecycle K.eq (ByValue We) B self.now.shards result.hits
-            result.misses }
         ensures misses { result.expired ≤ result.misses }
         ensures loads { (result.loads ≡ 0) × (result.failed_loads ≡ 0) }
     {

@@ -1,16 +1,13 @@
 //! Entries that are written with an end, renewed, and removed.
 ghost use Rattle.std.specs.Prelude.{◌≡◌, IfSome, IsTrue};
 ghost use Rattle.quick_cache_model.specs.Hashing.{hash_of};
-ghost use Rattle.quick_cache_model.specs.Sizes.{shard_part};
-ghost use Rattle.quick_cache_shard.specs.Alone.{IsDoneAlone};
 ghost use Rattle.quick_cache_shard.specs.Inserts.{with_pair};
 ghost use Rattle.quick_cache_shard.specs.Shard.{Shard};
-ghost use Rattle.quick_cache_shard.specs.Steps.{SetsCapacityBy, rules_in};
+ghost use Rattle.quick_cache_shard.specs.Steps.{rules_in};
 ghost use Rattle.quick_cache_locked.specs.Fitting.{FitsQuery};
 ghost use Rattle.quick_cache_locked.specs.Locked.{FromSome};
 ghost use Rattle.quick_cache_locked.specs.Touches.{any_touches};
 ghost use Rattle.quick_cache_sync.specs.Answers.{InsertsAloneBy, RemovesSo};
-ghost use Rattle.quick_cache_sync.specs.InTurn.{SetInTurn};
 ghost use Rattle.quick_cache_expiring.specs.Lives.{end_of, lives};
 ghost use Rattle.quick_cache_expiring.specs.Lastings.{lasting_of};
 ghost use Rattle.quick_cache_expiring.specs.declared.lasting.Lasting.{Lasting};
@@ -78,18 +75,11 @@ impl<
         self.cache.put(rt, key, Lasting { value, until })
     }
 
-    /// Sets the weight that the cache may hold, and hands what leaves to the lifecycle, with one
-    /// request state for all shards. What is over counts like any other. It takes the write lock of
-    /// each shard in turn, and no memory.
-    pub fn set_capacity<R: Wait>(&self, rt: &R, capacity: u64)
-        ensures sets { IsDoneAlone L.RequestState.is_default (SetInTurn L.Lifecycle K.eq
-            (λ (old new : Shard K (Lasting V) (ByValue We) B L). SetsCapacityBy
-            ⟦<Cache<K, Lasting<V>, ByValue<We>, B, L, A> as Ruled>⟧.goes any_touches old
-            (shard_part capacity self.now.shards) new) self.now.shards) }
-    {
-        let mut state = L::RequestState::default();
-        self.cache
-            .set_capacity_with_lifecycle(rt, capacity, &mut state);
+    /// Sets the weight that the cache may hold, and hands what leaves to the lifecycle, as the cache's
+    /// own `set_capacity`. What is over counts like any other. It takes the write lock of each shard
+    /// in turn, and no memory.
+    pub fn set_capacity<R: Wait>(&self, rt: &R, capacity: u64) {
+        self.cache.set_capacity(rt, capacity);
     }
 
     /// Gives the entry under the query's key a new end, where it serves at this moment: it is then

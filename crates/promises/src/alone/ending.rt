@@ -1,6 +1,5 @@
-//! What those rely on who write to a cache for one thread whose entries end, purge it, or claim a
-//! load.
-ghost use Rattle.std.specs.Prelude.{◌≡◌, ℕ, OnErr, true, false};
+//! What those rely on who purge a cache for one thread whose entries end, or claim a load.
+ghost use Rattle.std.specs.Prelude.{◌≡◌, ℕ, true, false};
 ghost use Rattle.std.specs.List.{Contains};
 ghost use Rattle.quick_cache_model.specs.CacheState.{Item};
 ghost use Rattle.quick_cache_model.specs.Fitting.{AllFit};
@@ -8,29 +7,7 @@ ghost use Rattle.quick_cache_shard.specs.Shard.{residents};
 ghost use Rattle.quick_cache_expiring.specs.declared.lasting.Lasting.{Lasting};
 ghost use Rattle.quick_cache_expiring.specs.Lives.{lives};
 
-use quick_cache_expiring::{Expiring, Loaded, Refusal};
-
-/// A refused put leaves the entries as they were.
-pub fn put_or_leave(
-    entries: &mut Expiring<u64, u64>,
-    key: u64,
-    value: u64,
-    now: u64,
-    life: u64,
-) -> Result<(), Refusal>
-    ensures { OnErr result (entries.new ≡ entries.old) }
-{
-    entries.put(key, value, now, life)
-}
-
-/// The capacity is the one that was set last, and nothing more is told to be over.
-pub fn set_and_tell(entries: &mut Expiring<u64, u64>, capacity: u64) -> u64
-    ensures set { result ≡ capacity }
-    ensures same { entries.new.expired ≡ entries.old.expired }
-{
-    entries.set_capacity(capacity);
-    entries.stats().capacity
-}
+use quick_cache_expiring::{Expiring, Loaded};
 
 /// A purge of none takes none.
 pub fn purge_none(entries: &mut Expiring<u64, u64>, now: u64) -> usize

@@ -3,7 +3,6 @@ ghost use Rattle.std.specs.Prelude.{◌≡◌, IfOk, IsOk};
 ghost use Rattle.std.specs.Int.{IsPowerOfTwo};
 
 use quick_cache_expiring::Expiring;
-use quick_cache_expiring_sync::SharedExpiring;
 use quick_cache_listeners::ByLength;
 use quick_cache_maker::{MakeError, Maker};
 use quick_cache_sync::Cache as SharedCache;
@@ -42,20 +41,6 @@ pub fn make_ending(alloc: Global, weight: u64) -> Result<Expiring<u64, u64>, Mak
     ensures none { IfOk result (λ made. made.expired ≡ 0) }
 {
     Maker::new().items(100).weight(weight).make_expiring(alloc)
-}
-
-/// One that threads share has a power of two of shards.
-pub fn make_ending_for_threads(
-    alloc: Global,
-    shards: usize,
-) -> Result<SharedExpiring<u64, u64>, MakeError>
-    ensures { IfOk result (λ made. IsPowerOfTwo made.shards) }
-{
-    Maker::new()
-        .items(1000)
-        .weight(1000)
-        .shards(shards)
-        .make_shared_expiring(alloc)
 }
 
 /// A loader's values live for as long as was named, and none is answered for longer.

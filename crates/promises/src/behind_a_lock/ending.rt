@@ -1,11 +1,10 @@
 //! What those rely on who share a cache whose entries end: what is over is neither shown nor renewed,
 //! and what lives is not purged.
-ghost use Rattle.std.specs.Prelude.{◌≡◌, ◌<◌, ℕ, IfOk, None, false, length, slice_index_or};
+ghost use Rattle.std.specs.Prelude.{◌≡◌, IfOk, None, false};
 
 use quick_cache_expiring::Lasting;
-use quick_cache_expiring_sync::{SharedExpiring, TryError};
+use quick_cache_expiring_sync::SharedExpiring;
 use quick_cache_model::{DefaultHashBuilder, Lifecycle, Refusal, UnitWeighter};
-use std::alloc::Global;
 use std::sync::Wait;
 
 /// Says that each entry ends at the moment 20.
@@ -50,26 +49,6 @@ pub fn get_at_the_end<R: Wait>(rt: &R, ending: &Ending, key: &u64) -> Result<Opt
     ensures { IfOk result (λ found. found ≡ None) }
 {
     ending.get(rt, key, 20)
-}
-
-/// Nor to who doesn't wait.
-pub fn try_at_the_end(ending: &Ending, key: &u64) -> Result<Option<u64>, TryError>
-    ensures { IfOk result (λ found. found ≡ None) }
-{
-    ending.try_get(key, 20)
-}
-
-/// Nor to who looks many up.
-pub fn get_many_at_the_end<R: Wait>(
-    rt: &R,
-    alloc: Global,
-    ending: &Ending,
-    keys: &[u64],
-) -> Result<Vec<Option<Lasting<u64>>>, Refusal>
-    ensures { IfOk result (λ found. (index : ℕ) → index < length keys.now
-        → slice_index_or found.items index None ≡ None) }
-{
-    ending.get_many(rt, alloc, keys, 20)
 }
 
 /// And none is renewed.

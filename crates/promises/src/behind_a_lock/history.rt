@@ -1,13 +1,13 @@
 //! What those rely on who make their calls in one history.
-ghost use Rattle.std.specs.Prelude.{◌≡◌, ◌+◌, false, is_some, length, IfSome};
+ghost use Rattle.std.specs.Prelude.{◌≡◌, ◌+◌, Some, false, is_some, length, IfOk, IfSome};
 ghost use mathlib.Core.List.{IsPrefix};
 ghost use Rattle.quick_cache_model.specs.declared.calls.call.Call.{Call};
 ghost use Rattle.quick_cache_model.specs.declared.calls.reply.Reply.{Reply};
 ghost use Rattle.quick_cache_history.specs.Histories.{reply_of_replace};
 ghost use Rattle.quick_cache_history.specs.Seats.{HasCall};
 
-use quick_cache_history::{Naming, Recorded, Seat};
-use quick_cache_model::{DefaultHashBuilder, UnitWeighter};
+use quick_cache_history::{Choice, Entered, Naming, Recorded, Seat};
+use quick_cache_model::{DefaultHashBuilder, Refusal, UnitWeighter};
 use quick_cache_sync::DefaultLifecycle;
 use std::sync::Wait;
 use std::thread::{Threads, join};
@@ -109,4 +109,30 @@ pub fn clear_and_count<J: Naming, R: Wait>(
 {
     numbers.clear(rt, seat);
     numbers.len(rt, seat)
+}
+
+/// Who takes a number out by an entry call, where it is small, has its removal in the history, with the
+/// pair that it got.
+pub fn take_or_count_up<J: Naming, R: Wait>(
+    rt: &R,
+    numbers: &Numbers<J>,
+    seat: &mut Seat<u64, u64, J>,
+    key: u64,
+) -> Result<Option<(u64, u64)>, Refusal>
+    ensures { IfOk result (λ taken. IfSome taken (λ pair. HasCall (Call.Remove key)
+        (Reply.Pair (Some pair)) seat.new.seen)) }
+{
+    let entered = numbers.entry(rt, seat, key, |found| match found {
+        None => Choice::Keep(()),
+        Some(value) => if value < 10 {
+            Choice::Remove
+        } else {
+            Choice::Insert(value.saturating_add(1))
+        },
+    });
+    match entered? {
+        Entered::Kept(()) => Ok(None),
+        Entered::Removed(pair) => Ok(pair),
+        Entered::Inserted => Ok(None),
+    }
 }

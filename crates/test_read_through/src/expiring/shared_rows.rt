@@ -1,8 +1,7 @@
 //! The rows of the cache that threads share.
 use crate::expiring::rows::{LIVES, PURGED_IN_PARTS};
 use quick_cache_expiring_sync::{
-    DefaultHashBuilder, DefaultLifecycle, Lasting, OptionsBuilder, SharedExpiring, Stats,
-    UnitWeighter,
+    DefaultHashBuilder, DefaultLifecycle, OptionsBuilder, SharedExpiring, Stats, UnitWeighter,
 };
 use std::convert::Infallible;
 use test_tools::{expect_eq, expect_ok};
@@ -135,31 +134,4 @@ fn a_shared_capacity_counts_what_is_over(rt: HostRuntime) {
     expect_eq!(rt; entries.len(&rt), 2);
     entries.clear(&rt);
     expect_eq!(rt; (entries.len(&rt), entries.cache().capacity(&rt)), (0, 2));
-}
-
-#[test]
-fn of_many_what_lives_is_given_and_what_is_over_goes(rt: HostRuntime) {
-    let entries: SharedExpiring<u64, u64> = expect_ok!(rt; SharedExpiring::new(rt.alloc(), 8));
-    for (key, end) in [(0, 5), (1, 10), (2, 20), (3, 30)] {
-        expect_eq!(rt; entries.put(&rt, key, key, 0, end), Ok(()));
-    }
-    let lasting = |value: u64, until: u64| Some(Lasting { value, until });
-    let found = expect_ok!(rt; entries.get_many(&rt, rt.alloc(), &[3, 1, 9, 3, 2], 15));
-    let lives = [lasting(3, 30), None, None, lasting(3, 30), lasting(2, 20)];
-    expect_eq!(rt; found.as_slice(), &lives[..]);
-    // Who doesn't wait leaves what is over.
-    let tried = (
-        entries.try_get(&0, 15),
-        entries.try_peek(&0, 15),
-        entries.try_get(&2, 15),
-    );
-    expect_eq!(rt; tried, (Ok(None), Ok(None), Ok(Some(2))));
-    let stats = Stats {
-        entries: 3,
-        hits: 4,
-        misses: 3,
-        expired: 2,
-        ..entries.cache().stats(&rt)
-    };
-    expect_eq!(rt; entries.stats(&rt), stats);
 }

@@ -1,6 +1,4 @@
-use Rattle.std.proofs.Common.{rules, ◌≡◌, ◌<◌, ◌++◌, [], ◌∷◌, false, is_some, length, subst, sym, arith}
-use Rattle.std.specs.List.{AllZip}
-use Rattle.read_through.specs.Many.{missing}
+use Rattle.std.proofs.Common.{rules, ◌≡◌, ◌++◌, [], ◌∷◌, arith}
 use Rattle.read_through.proofs.ManyLemmas.{asked-found, asked-missing}
 use Rattle.read_through.proofs.many.missing_of.Goals as goal
 

@@ -1,4 +1,4 @@
-use Rattle.std.proofs.Common.{rules, None, ◌≡◌, ◌<◌, ◌≤◌, length, slice_index_or, arith, ◌∙◌}
+use Rattle.std.proofs.Common.{rules, None, ◌<◌, length, arith, ◌∙◌}
 use Rattle.std.proofs.lemmas.List.{get_or_default}
 use Rattle.std.specs.Prelude.{IfSome}
 use Rattle.read_through.specs.Answers.{Answers, IsOf}

@@ -1,5 +1,4 @@
-use Rattle.std.proofs.Common.{rules, Ok, Err, refl}
-use Rattle.std.specs.Prelude.{IsTrue}
+use Rattle.std.proofs.Common.{Ok, Err, refl}
 use Rattle.read_through.specs.Answers.{Answers}
 use Rattle.read_through.proofs.AnswerLemmas.{IsFresh-own}
 use Rattle.read_through.proofs.ManyLemmas.{AllZip-filled}
