@@ -264,11 +264,14 @@ fn main() {
         }
         rounds => {
             let rounds = rounds.and_then(|it| it.parse().ok()).unwrap_or(7);
+            let named = words.next().unwrap_or_default();
             println!("| Operation | Entries | Proved, ns | Rust, ns | Ratio |\n|---|---|---|---|---|");
-            for row in rows(&mut numbers, OPERATIONS) {
+            for row in rows(&mut numbers, OPERATIONS).iter().filter(|it| it.name.contains(&named)) {
                 row.print(rounds);
             }
-            print_bytes();
+            if named.is_empty() {
+                print_bytes();
+            }
         }
     }
 }

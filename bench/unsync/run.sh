@@ -1,6 +1,7 @@
 #!/bin/sh
-# Times the cache for one thread beside that of the Rust crate. Usage: bench/unsync/run.sh CRATE [ROUNDS]
-# CRATE is the folder of quick_cache 0.7.0, with its Cargo.toml. ROUNDS is how often the two take turns, 7 if left out.
+# Times the cache for one thread beside that of the Rust crate. Usage: bench/unsync/run.sh CRATE [ROUNDS [NAME]]
+# CRATE is the folder of quick_cache 0.7.0, with its Cargo.toml. ROUNDS is how often the two take turns, 7 if left out. With a
+# NAME it times the rows alone that have it in theirs.
 # With COUNT=1 it counts instructions in place of time, by valgrind.
 set -e
 here=$(cd "$(dirname "$0")" && pwd)
@@ -24,7 +25,7 @@ done
 driver=$here/out/target/release/driver
 if [ -z "$COUNT" ]; then
     awk -F ': ' '/^model name/ { print $2 "\n"; exit }' /proc/cpuinfo
-    exec "$driver" "${2:-7}"
+    exec "$driver" "${2:-7}" "$3"
 fi
 # The rows of 10,000 entries: what 100,000 operations more cost, within each cache alone.
 counted() {
