@@ -1,6 +1,10 @@
 -- What is seen by who made a call more, and looked then.
-use Rattle.std.proofs.Common.{◌≡◌, ◌+◌, ℕ, List, [], ◌∷◌, ◌++◌, length, ap, sym, ◌∙◌, arith, append_assoc, length-append}
+use Rattle.std.proofs.Common.{◌≡◌, ◌+◌, ℕ, Bool, List, [], ◌∷◌, ◌++◌, length, Result, Ok, Err, IfOk}
+use Rattle.std.proofs.Common.{ap, sym, ◌∙◌, arith, append_assoc, length-append}
 use mathlib.Core.List.{IsPrefix}
+use Rattle.quick_cache_shard.specs.Steps.{Goes}
+use Rattle.quick_cache_history.specs.Loads.{Gives}
+use Rattle.quick_cache_history.specs.Seats.{Caller}
 
 pub prefix-trans : {X : Type 0} (xs ys zs : List X) → IsPrefix xs ys → IsPrefix ys zs → IsPrefix xs zs
 prefix-trans xs ys zs p q =
@@ -17,3 +21,19 @@ pub one_more : {X : Type 0} (old new after : List X) (entry : X) → new ≡ old
     → after ≡ new → length after ≡ length old + 1
 one_more old new after entry more same =
     omega (arith, ap length same, ap length more, length-append old (entry ∷ []))
+
+-- what was given is of what was loaded
+module _ {K V We B L S : Type 0} (goes : Goes K V We B L S) (is_default : S → Type 0)
+    (equal : K → K → Bool) (is_clone : V → V → Type 0) (number : ℕ) (key : K)
+    (loads is_own : V → Type 0) (own_is : (own : V) → loads own → is_own own) (old new : Caller K V)
+  where
+    gives_own : (value : V) → Gives goes is_default equal is_clone number key loads value old new
+        → Gives goes is_default equal is_clone number key is_own value old new
+    gives_own value (Gives.stood looks) = Gives.stood looks
+    gives_own value (Gives.put own loaded clones calls) = Gives.put own (own_is own loaded) clones calls
+
+    pub own-given : {E : Type 0} (answer : Result V E)
+        → IfOk answer (λ value. Gives goes is_default equal is_clone number key loads value old new)
+        → IfOk answer (λ value. Gives goes is_default equal is_clone number key is_own value old new)
+    own-given (Ok value) gives = gives_own value gives
+    own-given (Err error) gives = gives

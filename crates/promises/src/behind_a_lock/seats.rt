@@ -1,6 +1,6 @@
 //! What those rely on who write, look and remove by a seat: each call is made of its key's shard, and
 //! told as it was made.
-ghost use Rattle.std.specs.Prelude.{◌≡◌, OnOk};
+ghost use Rattle.std.specs.Prelude.{◌≡◌, Ok, IfOk, OnOk};
 ghost use Rattle.quick_cache_model.specs.Hashing.{hash_of};
 ghost use Rattle.quick_cache_model.specs.declared.calls.call.Call.{Call};
 ghost use Rattle.quick_cache_model.specs.declared.calls.reply.Reply.{Reply};
@@ -9,6 +9,7 @@ ghost use Rattle.quick_cache_shard.specs.Shard.{Shard};
 ghost use Rattle.quick_cache_sync.specs.Shards.{shard_of_hash};
 ghost use Rattle.quick_cache_history.specs.declared.entry.Entry.{Entry};
 ghost use Rattle.quick_cache_history.specs.KeptShards.{AtEnd};
+ghost use Rattle.quick_cache_history.specs.Loads.{Gives};
 ghost use Rattle.quick_cache_history.specs.Seats.{Extends};
 
 use quick_cache_history::{Naming, Recorded, Seat};
@@ -88,4 +89,36 @@ pub fn look_at_its_shard<
         Peeks (K.eq key.now) V.is_clone shard.state result) }
 {
     cache.get(rt, seat, key)
+}
+
+/// Who loads a value is given what the key's shard shows at the end of what its seat has then seen, or
+/// a clone of its own, which is that shard's last insert: no value is given that nobody put in.
+pub fn load_into_its_shard<
+    K: Eq + Hash + Drop,
+    V: Clone,
+    We: Weighter<K, V>,
+    B: BuildHasher,
+    L: Lifecycle<K, V>,
+    J: Naming,
+    R: Wait,
+>(
+    rt: &R,
+    cache: &Recorded<K, V, We, B, L, J>,
+    seat: &mut Seat<K, V, J>,
+    key: K,
+    value: V,
+) -> Result<V, Refusal>
+    requires fits { L.fits key value }
+    ensures { IfOk result (λ given. Gives ⟦<Recorded<K, V, We, B, L, J> as Ruled>⟧.goes
+        L.RequestState.is_default K.eq V.is_clone (shard_of_hash cache.now.shards
+        (hash_of B.BuildHasher B.Hasher.Hasher cache.now.builder (K.hash_input key))) key
+        (λ own. own ≡ value) given seat.old seat.new) }
+{
+    let loader = move || -> Result<V, Refusal>
+        ensures { result ≡ Ok value }
+    { Ok(value) };
+    match cache.get_or_insert_with(rt, seat, key, loader) {
+        Ok(loaded) => loaded,
+        Err(refusal) => Err(refusal),
+    }
 }
