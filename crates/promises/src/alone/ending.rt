@@ -1,4 +1,4 @@
-//! What those rely on who purge a cache for one thread whose entries end, or claim a load.
+//! What those rely on who bound or purge a cache for one thread whose entries end, or claim a load.
 ghost use Rattle.std.specs.Prelude.{◌≡◌, ℕ, true, false};
 ghost use Rattle.std.specs.List.{Contains};
 ghost use Rattle.quick_cache_model.specs.CacheState.{Item};
@@ -8,6 +8,15 @@ ghost use Rattle.quick_cache_expiring.specs.declared.lasting.Lasting.{Lasting};
 ghost use Rattle.quick_cache_expiring.specs.Lives.{lives};
 
 use quick_cache_expiring::{Expiring, Loaded};
+
+/// The capacity is the one that was set last, and no more is told to be over.
+pub fn set_and_tell(entries: &mut Expiring<u64, u64>, capacity: u64) -> u64
+    ensures set { result ≡ capacity }
+    ensures same { entries.new.expired ≡ entries.old.expired }
+{
+    entries.set_capacity(capacity);
+    entries.stats().capacity
+}
 
 /// A purge of none takes none.
 pub fn purge_none(entries: &mut Expiring<u64, u64>, now: u64) -> usize
