@@ -1,8 +1,36 @@
 use Rattle.std.proofs.Common.{refl, subst}
 use Rattle.read_through.specs.Answers.{Answers, AnswersLate}
-use Rattle.quick_cache_expiring.specs.Moments.{Serves}
-use Rattle.read_through.proofs.AnswerLemmas.{Answers-called, AnswersLate-found, ClonesFit-loaded, IfFresh-loaded, IfStale-own}
+use Rattle.quick_cache_expiring.specs.Moments.{IsWithin, Serves}
+use Rattle.read_through.proofs.AnswerLemmas.{Answers-called, Answers-found, AnswersLate-found, ClonesFit-loaded, IfFresh-loaded, IfStale-own, IsOf-same}
 use Rattle.read_through.proofs.reading.ReadThrough.answer.Goals as goal
+
+-- what was found under an equal key is within the grace
+pub answer_late-requires-clause-late : goal.answer_late-requires-clause-late
+answer_late-requires-clause-late g c =
+    let fits = c.in-Value.ensures.fits (ClonesFit-loaded g.S.Source.gives g.K.PartialEq.eq
+    g.met.K.Eq.laws g.V.Clone.is_clone c.requires.clones) in
+    let found = c.in-Value.found in
+    record {
+      moment = found.moment;
+      source = IsOf-same g.S.Source.gives g.K.PartialEq.eq g.met.K.Eq.laws c.args.key.now fits.key
+          found.moment found.value fits.stands fits.fits_key;
+      within = rw (← c.self.view_is) (subst
+          (λ life. IsWithin life c.self.inside.grace found.moment c.args.now)
+          c.life-life.ensures
+          (c.if-is_within.ensures.0 refl));
+    }
+
+-- it serves
+pub returns-after-is_due-clause-fresh : goal.returns-after-is_due-clause-fresh
+returns-after-is_due-clause-fresh g c =
+    let fits = c.in-Value.ensures.fits (ClonesFit-loaded g.S.Source.gives g.K.PartialEq.eq
+    g.met.K.Eq.laws g.V.Clone.is_clone c.requires.clones) in
+    let found = c.in-Value.found in
+    Answers-found g.S.Source.gives g.K.PartialEq.eq g.met.K.Eq.laws c.args.key.now
+    (g.Li.Lives.life_of c.args.self.now.lives c.args.key.now) fits.key found.moment c.args.now
+    found.value fits.stands fits.fits_key
+    (rw (← c.self.view_is) (subst (λ life. Serves life found.moment c.args.now) c.life-life.ensures
+    (c.if-not-serves.ensures.0 refl)))
 
 -- what was found under an equal key and serves is answered where the load failed
 pub returns-in-Some-clause-stale : goal.returns-in-Some-clause-stale
