@@ -13,7 +13,7 @@ fn all_hundreds(alloc: Global, keys: &[u64], now: u64) -> Result<Vec<u64>, Alloc
 {
     let mut values = Vec::with_capacity(alloc, keys.len())?;
     for key in keys {
-        values.push_reserved(hundreds(*key, now));
+        values.push(hundreds(*key, now))?;
     }
     Ok(values)
 }
