@@ -1,5 +1,4 @@
 //! Looks without a copy of the key, and a look that computes what is not there.
 
-pub mod borrowed;
 pub mod memo;
 pub mod names;

@@ -1,21 +1,10 @@
 //! Caches are made, copied, and given room.
+use quick_cache_listeners::ByBytes;
 use quick_cache_unsync::{
-    Cache, DefaultHashBuilder, DefaultLifecycle, OptionsBuilder, UnitWeighter, Weighter,
+    Cache, DefaultHashBuilder, DefaultLifecycle, OptionsBuilder, UnitWeighter,
 };
 use std::test::Fail;
 use test_tools::expect_eq;
-
-/// Weighs a list of numbers by how many there are.
-#[derive(Clone, Drop)]
-struct BySize;
-
-impl Weighter<u64, [u64; 4]> for BySize {
-    ghost weight_of = { λ _ _ _. 4 };
-
-    fn weight(&self, _key: &u64, _val: &[u64; 4]) -> u64 {
-        4
-    }
-}
 
 #[test]
 fn new(rt: HostRuntime) -> Result<(), Fail> {
@@ -27,11 +16,12 @@ fn new(rt: HostRuntime) -> Result<(), Fail> {
 
 #[test]
 fn with_weighter(rt: HostRuntime) -> Result<(), Fail> {
-    let mut cache = Cache::with_weighter(rt.alloc(), 100, 1000, BySize)?;
-    cache.insert(1, [1, 2, 3, 4])?;
+    let mut cache = Cache::with_weighter(rt.alloc(), 100, 1000, ByBytes::with_overhead(80))?;
+    // A key of eight bytes, six of the text, and 80 more.
+    cache.insert(1u64, "square")?;
     expect_eq!(rt;
         (cache.len(), cache.weight(), cache.capacity()),
-        (1, 4, 1000)
+        (1, 94, 1000)
     );
     Ok(())
 }

@@ -70,3 +70,31 @@ fn drain(rt: HostRuntime) -> Result<(), Fail> {
     expect_eq!(rt; (sum, cache.is_empty()), (60, true));
     Ok(())
 }
+
+#[test]
+fn extract_if(rt: HostRuntime) -> Result<(), Fail> {
+    let mut cache: Cache<u64, u64> = Cache::new(rt.alloc(), 5)?;
+    for key in 1..4u64 {
+        cache.insert(key, key * 10)?;
+    }
+    let mut sum = 0u64;
+    for (_, value) in cache.extract_if(|key, _| *key != 2) {
+        sum = sum.saturating_add(value);
+    }
+    expect_eq!(rt; (sum, cache.len(), cache.contains_key(&2)), (40, 1, true));
+    Ok(())
+}
+
+#[test]
+fn take_next_if(rt: HostRuntime) -> Result<(), Fail> {
+    let mut cache: Cache<u64, u64> = Cache::new(rt.alloc(), 5)?;
+    cache.insert(1, 10)?;
+    cache.insert(2, 20)?;
+    let wanted = |key: &u64, value: &u64| *key == 2 && *value == 20;
+    let Some((token, key, value)) = cache.take_next_if(None, &wanted) else {
+        panic!(rt; "the pair is there");
+    };
+    let next = cache.take_next_if(Some(token), &wanted);
+    expect_eq!(rt; (key, value, next.is_none(), cache.len()), (2, 20, true, 1));
+    Ok(())
+}

@@ -1,7 +1,6 @@
 //! Pairs are written.
-ghost use Rattle.std.specs.Prelude.{◌≡◌};
-
-use quick_cache_unsync::{Cache, DefaultHashBuilder, Lifecycle, UnitWeighter};
+use quick_cache_listeners::{Listener, OnLeave};
+use quick_cache_unsync::{Cache, DefaultHashBuilder, UnitWeighter};
 use std::test::Fail;
 use test_tools::{expect, expect_eq};
 
@@ -9,37 +8,11 @@ use test_tools::{expect, expect_eq};
 #[derive(Drop)]
 struct Leaving;
 
-impl Lifecycle<u64, u64> for Leaving {
-    type RequestState = u64;
+impl Listener<u64, u64> for Leaving {
+    type State = u64;
 
-    ghost before_evict_gives = { λ _ _ _ value _ left. left ≡ value };
-
-    ghost on_evict_gives = { λ _ _ _ _ _. Unit {0} };
-
-    ghost on_evict_cold_gives = { λ _ _ _ _ _. Unit {0} };
-
-    ghost on_evict_hot_gives = { λ _ _ _ _ _. Unit {0} };
-
-    ghost keeps_fits = { λ _ _ _ _ _ _ _ fits. fits };
-
-    ghost same_fits = { λ _ _ _ _ fits. fits };
-
-    fn is_pinned(&self, _key: &u64, _val: &u64) -> bool {
-        false
-    }
-
-    fn before_evict(&self, _state: &mut u64, _key: &u64, _val: &mut u64) {}
-
-    fn on_evict(&self, state: &mut u64, _key: u64, _val: u64) {
-        *state = state.saturating_add(1);
-    }
-
-    fn on_evict_cold(&self, state: &mut u64, key: u64, val: u64) {
-        self.on_evict(state, key, val);
-    }
-
-    fn on_evict_hot(&self, state: &mut u64, key: u64, val: u64) {
-        self.on_evict(state, key, val);
+    fn tell(&self, left: &mut u64, _key: u64, _val: u64) {
+        *left = left.saturating_add(1);
     }
 }
 
@@ -60,7 +33,7 @@ fn insert_with_lifecycle(rt: HostRuntime) -> Result<(), Fail> {
         2,
         UnitWeighter,
         DefaultHashBuilder::new(),
-        Leaving,
+        OnLeave(Leaving),
     )?;
     let mut left = 0;
     for key in [1, 2, 3] {
@@ -89,7 +62,7 @@ fn replace_with_lifecycle(rt: HostRuntime) -> Result<(), Fail> {
         5,
         UnitWeighter,
         DefaultHashBuilder::new(),
-        Leaving,
+        OnLeave(Leaving),
     )?;
     cache.insert(1, 10)?;
     let mut left = 0;
@@ -110,7 +83,7 @@ fn set_capacity_with_lifecycle(rt: HostRuntime) -> Result<(), Fail> {
         5,
         UnitWeighter,
         DefaultHashBuilder::new(),
-        Leaving,
+        OnLeave(Leaving),
     )?;
     for key in 0..5u64 {
         cache.insert(key, key)?;

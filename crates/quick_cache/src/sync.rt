@@ -7,7 +7,7 @@ pub use quick_cache_locked::LockedShard;
 pub use quick_cache_model::EntryAction;
 use quick_cache_model::{DefaultHashBuilder, UnitWeighter};
 pub use quick_cache_sync::{
-    Cache, DefaultLifecycle, Drain, Heated, Iter, LockContention, Miss, TryError,
+    Cache, DefaultLifecycle, Drain, ExtractIf, Heated, Iter, LockContention, Miss, TryError,
 };
 pub use quick_cache_traced::{PARTS, Seat, TraceCall, Traced};
 use std::alloc::Global;

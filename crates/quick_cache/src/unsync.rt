@@ -2,6 +2,6 @@
 
 pub use quick_cache_runs::{Call, Reply, run};
 pub use quick_cache_unsync::{
-    Cache, DefaultLifecycle, Drain, Guard, Iter, LoadError, Miss, NotLoaded, Placeholder, Plainly,
-    Ref, RefMut,
+    Cache, DefaultLifecycle, Drain, ExtractIf, Guard, Iter, LoadError, Miss, NotLoaded,
+    Placeholder, Plainly, Ref, RefMut,
 };

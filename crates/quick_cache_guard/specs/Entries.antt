@@ -1,5 +1,5 @@
 -- What an entry call answers.
-use Rattle.std.specs.Prelude.{◌⊎◌, ⊤, Bool, true, false, Option, Some, None, Result, Ok, Err}
+use Rattle.std.specs.Prelude.{◌≡◌, ◌⊎◌, ⊤, Bool, true, false, Option, Some, None, Result, Ok, Err}
 use Rattle.quick_cache_loading.specs.Waiters.{IsLoadRefusal}
 use Rattle.quick_cache_loading.specs.declared.waiting.waited.Waited.{Waited}
 use Rattle.quick_cache_guard.specs.declared.results.GuardResult.{GuardResult}
@@ -78,13 +78,15 @@ IfUncalled (Err (Some _)) P = ⊤
 module _ {K V T : Type 0} (leaves : K → V → EntryAction T → V → Type 0)
     (fits : K → V → Type 0) (stands_for : K → Bool) where
   -- What an entry call answers is what the callback chose, by its one call. Where no item was acted
-  -- on it was not called. A value whose place no guard could be had for is given back as removed.
+  -- on it was not called. A value whose place no guard could be had for is given back as removed,
+  -- with a key that the query stands for.
   abbrev pub AnswersAsChosen : {G : Type 0} → (uncalled : Type 0) → EntryResult T K V G → Type 0
   AnswersAsChosen uncalled (EntryResult.Retained told) =
       (key : K) × (left : V) × Chooses leaves fits stands_for (EntryAction.Retain told) key left
   AnswersAsChosen uncalled (EntryResult.Removed key value) =
       Chooses leaves fits stands_for EntryAction.Remove key value
-      ⊎ ((shown : K) × Chooses leaves fits stands_for EntryAction.ReplaceWithGuard shown value)
+      ⊎ ((stands_for key ≡ true)
+      × ((shown : K) × Chooses leaves fits stands_for EntryAction.ReplaceWithGuard shown value))
   AnswersAsChosen uncalled (EntryResult.Replaced guard value) =
       (key : K) × Chooses leaves fits stands_for EntryAction.ReplaceWithGuard key value
   AnswersAsChosen uncalled (EntryResult.Vacant guard) = uncalled

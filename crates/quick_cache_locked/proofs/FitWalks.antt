@@ -10,6 +10,7 @@ use Rattle.quick_cache_model.specs.CacheState.{CacheState, Item}
 use Rattle.quick_cache_model.proofs.EachElement.{all-without, all-middle}
 use Rattle.quick_cache_shard.specs.Copies.{ClonesAreEqual}
 use Rattle.quick_cache_shard.specs.Shard.{Shard, residents}
+use Rattle.quick_cache_shard.specs.TakesWanted.{TakesNextWanted}
 use Rattle.quick_cache_shard.specs.Tokens.{TakesItem}
 use Rattle.quick_cache_shard.proofs.PlaceLemmas.{Contains-cons_cases}
 use Rattle.quick_cache_locked.specs.Fitting.{FitsIn, AllFit, ClonesFit}
@@ -89,3 +90,18 @@ module _ {K V We B L S : Type 0} (life : lifecycle.Ghosts L K V S) (after : ℕ)
     taken-fits None takes = tt
     taken-fits (Some gone) takes =
         TakesItem-gives life.fits old.state new.state (gone.1, gone.2) takes fit
+
+    -- the same where the item that goes is the next that is wanted
+    pub AllFit-wanted : (answers : K → V → Bool → Type 0) (taken : Option (Token × K × V))
+        → TakesNextWanted answers after old taken new → AllFit life.fits new.state
+    AllFit-wanted answers None takes =
+        subst (λ (s : Shard K V We B L). AllFit life.fits s.state) (sym takes.1) fit
+    AllFit-wanted answers (Some gone) takes =
+        TakesItem-fits life.fits old.state new.state (gone.1, gone.2) takes.takes fit
+
+    pub wanted-fits : (answers : K → V → Bool → Type 0) (taken : Option (Token × K × V))
+        → TakesNextWanted answers after old taken new
+        → IfSome taken (λ gone. life.fits gone.1 gone.2)
+    wanted-fits answers None takes = tt
+    wanted-fits answers (Some gone) takes =
+        TakesItem-gives life.fits old.state new.state (gone.1, gone.2) takes.takes fit

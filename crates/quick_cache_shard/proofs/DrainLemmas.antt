@@ -12,7 +12,7 @@ use Rattle.quick_cache_shard.specs.ShardDrain.{GivesOne, KeepsBesideItems, pairs
 
 module _ {K V : Type 0} where
   -- an item that goes from its place goes from all items, and nothing else does
-  residents-taken : (place : Place) (old new : CacheState K V) (before : List (Item K V))
+  pub residents-taken : (place : Place) (old new : CacheState K V) (before : List (Item K V))
       (item : Item K V) (after : List (Item K V))
       → items_at place old ≡ before ++ item ∷ after
       → new ≡ with_items place (before ++ after) old

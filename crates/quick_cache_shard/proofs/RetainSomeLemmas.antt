@@ -18,6 +18,7 @@ use Rattle.quick_cache_shard.specs.PlaceWalks.{IsNextPlace, EndsAt}
 use Rattle.quick_cache_shard.specs.RetainsSome.{Passes, HasPassed, StaysIfPassed, RetainsTo, RetainsSome}
 use Rattle.quick_cache_shard.specs.Shard.{Shard, IsSoundShard, IsFree, LeavesPlace, residents}
 use Rattle.quick_cache_shard.specs.Stays.{IdlesWithin}
+use Rattle.quick_cache_shard.proofs.DrainLemmas.{residents-taken}
 use Rattle.quick_cache_shard.proofs.PlaceLemmas.{Contains-first, Contains-cons_cases}
 
 -- an element of a list stands between two others
@@ -63,7 +64,7 @@ module _ {K V : Type 0} where
 module _ {K V : Type 0} (equal : K → K → Bool) (reflexive : (k : K) → equal k k ≡ true)
     (state : CacheState K V) (valid : IsValid equal state) where
   -- two residents of one key are one
-  resident-same : (item other : Item K V) → Contains (residents state) item
+  pub resident-same : (item other : Item K V) → Contains (residents state) item
       → Contains (residents state) other → other.key ≡ item.key → other ≡ item
   resident-same item other there also same =
       let at = resident-at state item there in
@@ -290,6 +291,31 @@ asked-still {K} {V} may answers old new retains each place before item after spl
     go InStill there = of InStill
         (StayAsAnswered-was answers old.still new.still retains.still item there)
 
+module _ {K V We B L : Type 0} (equal : K → K → Bool) where
+  -- what leaves a token has the key of the item that stood there
+  key-taken : (old : Shard K V We B L) → IsSoundShard equal old → (token : ℕ) (item : Item K V)
+      → Contains old.places (token, item.key) → (new : Shard K V We B L) (pair : K × V)
+      → LeavesPlace old token pair.0 new → pair.0 ≡ item.key
+  key-taken old sound token item place new pair leaves =
+      sound.places.one_key (token, pair.0) (token, item.key)
+      (Contains-permutation ((token, pair.0) ∷ new.places) old.places (token, pair.0)
+      (IsPermutation-sym old.places ((token, pair.0) ∷ new.places) leaves)
+      (Contains-first (token, pair.0) new.places)) place refl
+
+  -- and is that item
+  pub item-taken : ((k : K) → equal k k ≡ true) → (old : Shard K V We B L)
+      → (sound : IsSoundShard equal old) → (token : ℕ) (item : Item K V)
+      → Contains old.places (token, item.key) → Contains (residents old.state) item
+      → (new : Shard K V We B L) (pair : K × V) → (takes : TakesItem old.state pair new.state)
+      → LeavesPlace old token pair.0 new → takes.item ≡ item
+  item-taken reflexive old sound token item place there new pair takes leaves =
+      resident-same equal reflexive old.state sound.valid item takes.item there
+      (at-resident old.state takes.place takes.item
+      (subst (λ l. Contains l takes.item) (sym takes.split)
+      (Contains-middle takes.before takes.item takes.after)))
+      (sym (ap (λ (p : K × V). p.0) takes.gives)
+      ∙ key-taken old sound token item place new pair leaves)
+
 -- The item of the least token behind is passed: it stays where it was answered yes, and goes where it
 -- was answered no.
 pub record PassesItem {K V We B L : Type 0} (answers : K → V → Bool → Type 0) (after : ℕ)
@@ -376,18 +402,11 @@ module _ {K V We B L : Type 0} (answers : K → V → Bool → Type 0) (after : 
             let pair = dropped.1.0 in
             let takes = dropped.1.1 in
             let leaves = dropped.1.2 in
-            let left : Contains mid.places (token, pair.0) =
-            Contains-permutation ((token, pair.0) ∷ new.places) mid.places (token, pair.0)
-            (IsPermutation-sym mid.places ((token, pair.0) ∷ new.places) leaves)
-            (Contains-first (token, pair.0) new.places) in
             let key : pair.0 ≡ passes.item.key =
-            sound.places.one_key (token, pair.0) place left passes.next.there refl in
+            key-taken equal mid sound token passes.item passes.next.there new pair leaves in
             let one : takes.item ≡ passes.item =
-            resident-same equal reflexive mid.state sound.valid passes.item takes.item passes.there
-            (at-resident mid.state takes.place takes.item
-            (subst (λ l. Contains l takes.item) (sym takes.split)
-            (Contains-middle takes.before takes.item takes.after)))
-            (sym (ap (λ (p : K × V). p.0) takes.gives) ∙ key) in
+            item-taken equal reflexive mid sound token passes.item passes.next.there
+            passes.there new pair takes leaves in
             record {
               passes = Passes.next passed last place to.passes next;
               retains = RetainsAsked-less (StaysIfPassed answers passed)
@@ -483,3 +502,19 @@ asked-there may state each item there =
     let at = resident-at state item there in
     let of = Contains-split (items_at at.0 state) item at.1 in
     each at.0 of.0 item of.1 of.2
+
+-- and at those that are left once one is taken
+pub asked-left : {K V : Type 0} (may : K → V → Type 0) (old new : CacheState K V) (pair : K × V)
+    → TakesItem old pair new
+    → ((place : Place) (before : List (Item K V)) (item : Item K V) (after : List (Item K V))
+    → items_at place old ≡ before ++ item ∷ after → may item.key item.value)
+    → (place : Place) (before : List (Item K V)) (item : Item K V) (after : List (Item K V))
+    → items_at place new ≡ before ++ item ∷ after → may item.key item.value
+asked-left may old new pair takes each place before item after split =
+    asked-there may old each item
+    (Contains-permutation (takes.item ∷ residents new) (residents old) item
+    (IsPermutation-sym (residents old) (takes.item ∷ residents new)
+    (residents-taken takes.place old new takes.before takes.item takes.after takes.split takes.rest))
+    (Contains-later takes.item (residents new) item
+    (at-resident new place item
+    (subst (λ l. Contains l item) (sym split) (Contains-middle before item after)))))

@@ -1,11 +1,12 @@
 -- A walk that comes to the end of a shard.
-use Rattle.std.proofs.Common.{◌≡◌, ℕ, ◌+◌, ◌<◌, Bool, refl, inl, inr, arith, subst, sym, ◌∙◌}
-use Rattle.quick_cache_model.specs.declared.terms.lifecycle.Lifecycle as lifecycle
+use Rattle.std.proofs.Common.{◌≡◌, ℕ, ◌+◌, ◌<◌, ◌≤◌, Bool, refl, inl, inr, arith, subst, sym, ◌∙◌}
+use Rattle.std.specs.Iterator.{size}
 use Rattle.std.proofs.lemmas.Bool.{cases_lt}
+use Rattle.quick_cache_model.specs.declared.terms.lifecycle.Lifecycle as lifecycle
 use Rattle.quick_cache_shard.specs.PlaceWalks.{EndsAt}
 use Rattle.quick_cache_shard.specs.Shard.{Shard}
 use Rattle.quick_cache_locked.specs.Locked.{FromSome}
-use Rattle.quick_cache_sync.specs.Walks.{ComesTo, EndsUpTo, Standing}
+use Rattle.quick_cache_sync.specs.Walks.{ComesTo, EndsUpTo, IsSoUpTo, Standing, tokens_ahead}
 
 -- it begins the next one
 pub ComesTo-next : (old : Standing) (shard after index : ℕ) → shard ≡ index
@@ -23,23 +24,52 @@ ComesTo-same old shard first second (inr later) (inl here) =
     absurd (omega (arith, here.0, later.0))
 ComesTo-same old shard first second (inr later) (inr also) = later.1 ∙ sym also.1
 
-module _ {K V L S : Type 0} (life : lifecycle.Ghosts L K V S) (equal : K → K → Bool)
-    (We B : Type 0) (old : Standing) where
+module _ {K V We B L S : Type 0} (life : lifecycle.Ghosts L K V S) (equal : K → K → Bool)
+    (is_so : Shard K V We B L → ℕ → Type 0) (old : Standing) where
   -- no shard is passed where it stands
-  pub EndsUpTo-first : EndsUpTo life equal We B old old.0
-  EndsUpTo-first place after (inl here) below = absurd (omega (arith, here.0, below))
-  EndsUpTo-first place after (inr later) below = absurd (omega (arith, later.0, below))
+  pub IsSoUpTo-first : IsSoUpTo life equal is_so old old.0
+  IsSoUpTo-first place after (inl here) below = absurd (omega (arith, here.0, below))
+  IsSoUpTo-first place after (inr later) below = absurd (omega (arith, later.0, below))
 
-  -- one more is passed that had no more
-  pub EndsUpTo-next : (shard after index : ℕ) → shard ≡ index → ComesTo old shard after
-      → FromSome life equal (λ (shard : Shard K V We B L). EndsAt shard.places after)
-      → EndsUpTo life equal We B old shard → EndsUpTo life equal We B old (index + 1)
-  EndsUpTo-next shard after index at comes ended before place behind came below =
+  -- one more is passed of which it is true
+  pub IsSoUpTo-next : (shard after index : ℕ) → shard ≡ index → ComesTo old shard after
+      → FromSome life equal (λ (shard : Shard K V We B L). is_so shard after)
+      → IsSoUpTo life equal is_so old shard → IsSoUpTo life equal is_so old (index + 1)
+  IsSoUpTo-next shard after index at comes is before place behind came below =
       elim (cases_lt place index) [
         | inl earlier ↦ before place behind came (omega (arith, at, earlier))
         | inr later ↦
             let here : place ≡ index = omega (arith, below, later) in subst (λ number. FromSome life equal
-            (λ (shard : Shard K V We B L). EndsAt shard.places number))
+            (λ (shard : Shard K V We B L). is_so shard number))
             (ComesTo-same old shard after behind comes
-            (subst (λ number. ComesTo old number behind) (here ∙ sym at) came)) ended
+            (subst (λ number. ComesTo old number behind) (here ∙ sym at) came)) is
       ]
+
+module _ {K V L S : Type 0} (life : lifecycle.Ghosts L K V S) (equal : K → K → Bool)
+    (We B : Type 0) (old : Standing) where
+  -- the same of shards that had no more
+  pub EndsUpTo-first : EndsUpTo life equal We B old old.0
+  EndsUpTo-first =
+      IsSoUpTo-first life equal (λ (shard : Shard K V We B L) after. EndsAt shard.places after) old
+
+  pub EndsUpTo-next : (shard after index : ℕ) → shard ≡ index → ComesTo old shard after
+      → FromSome life equal (λ (shard : Shard K V We B L). EndsAt shard.places after)
+      → EndsUpTo life equal We B old shard → EndsUpTo life equal We B old (index + 1)
+  EndsUpTo-next =
+      IsSoUpTo-next life equal (λ (shard : Shard K V We B L) after. EndsAt shard.places after) old
+
+-- a later token of the shard is nearer to the end
+pub tokens_ahead-nearer : (shards same first began shard after index token : ℕ) → same ≡ shards
+    → shard ≡ index → after < token → token ≤ 4294967296
+    → size (tokens_ahead shards shard after) ≤ size (tokens_ahead shards first began)
+    → size (tokens_ahead same index token) < size (tokens_ahead shards first began)
+tokens_ahead-nearer shards same first began shard after index token is at above within ahead =
+    omega (arith, is, at, above, within, ahead)
+
+-- and so is the next shard
+pub tokens_ahead-farther : (shards first began shard after index : ℕ) → shard ≡ index
+    → index < shards
+    → size (tokens_ahead shards shard after) ≤ size (tokens_ahead shards first began)
+    → size (tokens_ahead shards (index + 1) 0) ≤ size (tokens_ahead shards first began)
+tokens_ahead-farther shards first began shard after index at below ahead =
+    omega (arith, at, below, ahead)

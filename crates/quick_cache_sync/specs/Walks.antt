@@ -7,6 +7,7 @@ use Rattle.quick_cache_model.specs.declared.refusal.Refusal.{Refusal}
 use Rattle.quick_cache_shard.specs.Copies.{ClonesAreEqual}
 use Rattle.quick_cache_shard.specs.PlaceWalks.{EndsAt}
 use Rattle.quick_cache_shard.specs.Shard.{Shard}
+use Rattle.quick_cache_shard.specs.TakesWanted.{TakesNextWanted, WantsNone}
 use Rattle.quick_cache_shard.specs.WalksFrom.{number_or_zero}
 use Rattle.quick_cache_locked.specs.Fitting.{ClonesFit}
 use Rattle.quick_cache_locked.specs.Locked.{FromSome}
@@ -22,10 +23,21 @@ ComesTo old shard after = ((shard ≡ old.0) × (after ≡ number_or_zero old.1)
     ⊎ ((old.0 < shard) × (after ≡ 0))
 
 module _ {K V L S : Type 0} (life : lifecycle.Ghosts L K V S) (equal : K → K → Bool) where
+  -- this was true of each shard before that one, behind where the walk came to it
+  abbrev pub IsSoUpTo : {We B : Type 0} → (Shard K V We B L → (after : ℕ) → Type 0) → Standing
+      → (next : ℕ) → Type 0
+  IsSoUpTo {We} {B} is_so old next = (place after : ℕ) → ComesTo old place after → place < next
+      → FromSome life equal (λ (shard : Shard K V We B L). is_so shard after)
+
   -- each shard before this one, from where the walk stood, had no item behind where it came to it
   abbrev pub EndsUpTo : (We B : Type 0) → Standing → (next : ℕ) → Type 0
-  EndsUpTo We B old next = (place after : ℕ) → ComesTo old place after → place < next
-      → FromSome life equal (λ (shard : Shard K V We B L). EndsAt shard.places after)
+  EndsUpTo We B = IsSoUpTo (λ (shard : Shard K V We B L) after. EndsAt shard.places after)
+
+  -- none of the items that it had there was wanted
+  abbrev pub WantsNoneUpTo : (We B : Type 0) → (answers : K → V → Bool → Type 0) → Standing
+      → (next : ℕ) → Type 0
+  WantsNoneUpTo We B answers =
+      IsSoUpTo (λ (shard : Shard K V We B L) after. WantsNone answers after shard)
 
   -- A pair that is shown is a clone of the next item of some shard, behind where the walk came to it;
   -- and there the walk stands afterwards.
@@ -36,12 +48,24 @@ module _ {K V L S : Type 0} (life : lifecycle.Ghosts L K V S) (equal : K → K �
       × FromSome life equal (λ (shard : Shard K V We B L).
       ClonesNext shard after key_clone is_clone (token, pair.0, pair.1))))
 
-  -- A pair that is taken is the next item of some shard likewise, which that step took out.
-  abbrev pub TakesPair : (We B : Type 0) → Standing → Option (K × V) → Standing → Type 0
-  TakesPair We B old answer new = IfSome answer (λ pair.
+  -- A pair that is taken is that of such a step of some shard likewise.
+  abbrev pub TakesBy : {We B : Type 0} → (step : Shard K V We B L → (after : ℕ)
+      → Option (Token × K × V) → Shard K V We B L → Type 0) → Standing → Option (K × V) → Standing
+      → Type 0
+  TakesBy {We} {B} step old answer new = IfSome answer (λ pair.
       (token : Token) × (after : ℕ) × ComesTo old new.0 after × (new.1 ≡ Some token)
       × FromSome life equal (λ (shard : Shard K V We B L). (left : Shard K V We B L)
-      × TakesNext shard after (Some (token, pair.0, pair.1)) left))
+      × step shard after (Some (token, pair.0, pair.1)) left))
+
+  -- it is the next item, which that step took out
+  abbrev pub TakesPair : (We B : Type 0) → Standing → Option (K × V) → Standing → Type 0
+  TakesPair We B = TakesBy (λ (shard : Shard K V We B L). TakesNext shard)
+
+  -- it is the next item that was wanted
+  abbrev pub TakesWantedPair : (We B : Type 0) → (answers : K → V → Bool → Type 0) → Standing
+      → Option (K × V) → Standing → Type 0
+  TakesWantedPair We B answers =
+      TakesBy (λ (shard : Shard K V We B L) after. TakesNextWanted answers after shard)
 
   -- and fits its key
   abbrev pub ShownFits : (key_clone : K → K → Type 0) (is_clone : V → V → Type 0)

@@ -1,5 +1,6 @@
 //! The calls, by what they do under the lock of a shard.
 
+pub mod extracting;
 pub mod filling;
 pub mod hottest;
 pub mod loads;

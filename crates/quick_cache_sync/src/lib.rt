@@ -8,6 +8,7 @@ mod lifecycle;
 mod shards;
 
 pub use cache::Cache;
+pub use calls::extracting::ExtractIf;
 pub use calls::walks::{Drain, Iter};
 pub use error::{LockContention, TryError};
 pub use lifecycle::DefaultLifecycle;

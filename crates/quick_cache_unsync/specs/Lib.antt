@@ -5,6 +5,7 @@ pub use Rattle.quick_cache_shard.specs.Replaces
 pub use Rattle.quick_cache_shard.specs.SetsCapacity
 pub mod Lent
 pub mod CacheDrain
+pub mod Extracting
 pub mod References
 pub mod Loads
 pub mod Fetches

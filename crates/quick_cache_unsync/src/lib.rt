@@ -27,4 +27,5 @@ pub use quick_cache_options::options::{Error, Options, OptionsBuilder};
 pub use quick_cache_shard::{CacheShard, Miss, Placeholder, Plainly, SavedIter};
 pub use quick_cache_stats::Stats;
 pub use walking::drain::Drain;
+pub use walking::extracting::ExtractIf;
 pub use walking::iter::Iter;

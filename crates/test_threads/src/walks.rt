@@ -1,6 +1,8 @@
 //! Walks over the shared cache, and drains of it.
 use crate::shards::divided;
 use quick_cache::sync::Cache;
+use quick_cache::{DefaultHashBuilder, UnitWeighter};
+use quick_cache_listeners::{Cause, Collect, Collected, OnLeaveWhy, Request, TellsTaken};
 use std::alloc::Global;
 use std::sync::Wait;
 use std::sync::atomic::{AtomicBool, Ordering};
@@ -69,6 +71,30 @@ fn a_walk_shows_each_item_once_and_a_drain_takes_it(rt: HostRuntime) {
         expect!(rt; begin_with_numbers(&keys, 70000) && keys.len() == 70000);
     }
     expect_eq!(rt; cache.len(&rt), 0);
+}
+
+#[test]
+fn what_a_predicate_wants_is_taken_and_told_and_the_rest_stays(rt: HostRuntime) {
+    let told = OnLeaveWhy(Collect);
+    let builder = DefaultHashBuilder::new();
+    let cache = expect_ok!(rt; Cache::with(rt.alloc(), 100, 100, UnitWeighter, builder, told));
+    for number in 0..9u64 {
+        expect_ok!(rt; cache.put(&rt, number, number));
+    }
+    let mut left = Request::default();
+    left.state = Collected::with(Vec::new(rt.alloc()));
+    let wanted = cache.extract_if(&rt, |key, _| *key % 3 == 0);
+    OnLeaveWhy(Collect).tell_each_taken(&mut left, wanted, Cause::Retained);
+    let (mut keys, mut causes) = (0u64, 0u64);
+    left.state.each(|key, (_, cause)| {
+        keys = keys.saturating_add(key);
+        causes = causes.saturating_add(u64::from(cause == Cause::Retained));
+    });
+    expect_eq!(rt; (keys, causes, cache.len(&rt)), (9, 3, 6));
+    let mut none = cache.extract_if(&rt, |key, _| *key % 3 == 0);
+    expect!(rt; none.next().is_none());
+    let text = expect_ok!(rt; format!(in rt.alloc(); "{none:?}"));
+    expect_eq!(rt; text.as_str(), "ExtractIf { .. }");
 }
 
 /// Walks twenty times, and counts the walks that show each of the keys 0 to 499 once.

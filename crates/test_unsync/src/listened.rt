@@ -150,6 +150,41 @@ fn what_the_caller_takes_out_is_counted_by_its_cause(rt: HostRuntime) {
 }
 
 #[test]
+fn what_a_predicate_wants_is_taken_by_ascending_token_and_the_rest_stays(rt: HostRuntime) {
+    let builder = DefaultHashBuilder::new();
+    let mut cache = expect_ok!(rt; Cache::with(rt.alloc(), 10, 100, ByLength, builder, COUNTED));
+    for (key, text) in [
+        (4, "four"),
+        (3, "three"),
+        (2, "two"),
+        (1, "fourth"),
+        (6, "sixth"),
+    ] {
+        expect_eq!(rt; cache.put(key, text), Ok(()));
+    }
+    for key in [3, 3, 2, 9] {
+        let _text = cache.get(&key);
+    }
+    let mut told: Request<Counts<()>> = Request::default();
+    // The first one that is wanted, and no more.
+    let first = cache.extract_if(|key, _| *key % 2 == 0).next();
+    expect_eq!(rt; (first, cache.len(), cache.weight()), (Some((4, "four")), 4, 19));
+    expect_eq!(rt; cache.extract_if(|_, _| false).next(), None);
+    let even = cache.extract_if(|key, text| *key % 2 == 0 && text.len() < 6);
+    COUNTED.tell_each_taken(&mut told, even, Cause::Retained);
+    let retained = Tally {
+        pairs: 2,
+        weight: 8,
+    };
+    expect_eq!(rt; told.state.tallies.of(Cause::Retained), retained);
+    expect_eq!(rt; (cache.len(), cache.weight(), cache.hits(), cache.misses()), (2, 11, 3, 1));
+    let reads = [3, 1].map(|key| cache.item_stats(&key).map(|stats| stats.access_count));
+    expect_eq!(rt; reads, [Some(2), Some(0)]);
+    let text = expect_ok!(rt; format!(in rt.alloc(); "{:?}", cache.extract_if(|_, _| true)));
+    expect_eq!(rt; (text.as_str(), cache.len()), ("ExtractIf { .. }", 2));
+}
+
+#[test]
 fn what_leaves_without_a_list_is_lost(rt: HostRuntime) {
     let builder = DefaultHashBuilder::new();
     let mut cache =

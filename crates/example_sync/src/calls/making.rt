@@ -1,20 +1,9 @@
 //! Caches are made, and given room.
 use quick_cache::sync::{Cache, DefaultLifecycle};
-use quick_cache::{DefaultHashBuilder, OptionsBuilder, UnitWeighter, Weighter};
+use quick_cache::{DefaultHashBuilder, OptionsBuilder, UnitWeighter};
+use quick_cache_listeners::ByBytes;
 use std::test::Fail;
 use test_tools::{expect, expect_eq};
-
-/// Weighs a list of numbers by how many there are.
-#[derive(Clone, Drop)]
-struct BySize;
-
-impl Weighter<u64, [u64; 4]> for BySize {
-    ghost weight_of = { λ _ _ _. 4 };
-
-    fn weight(&self, _key: &u64, _val: &[u64; 4]) -> u64 {
-        4
-    }
-}
 
 #[test]
 fn new(rt: HostRuntime) -> Result<(), Fail> {
@@ -26,11 +15,12 @@ fn new(rt: HostRuntime) -> Result<(), Fail> {
 
 #[test]
 fn with_weighter(rt: HostRuntime) -> Result<(), Fail> {
-    let cache = Cache::with_weighter(rt.alloc(), 100, 1000, BySize)?;
-    expect!(rt; cache.insert(&rt, 1, [1, 2, 3, 4]).is_ok());
+    let cache = Cache::with_weighter(rt.alloc(), 100, 1000, ByBytes::with_overhead(80))?;
+    // A key of eight bytes, six of the text, and 80 more.
+    expect!(rt; cache.insert(&rt, 1u64, "square").is_ok());
     expect_eq!(rt;
         (cache.len(&rt), cache.weight(&rt), cache.capacity(&rt)),
-        (1, 4, 1000)
+        (1, 94, 1000)
     );
     Ok(())
 }

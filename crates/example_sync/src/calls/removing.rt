@@ -83,3 +83,15 @@ fn drain(rt: HostRuntime) -> Result<(), Fail> {
     expect!(rt; cache.is_empty(&rt));
     Ok(())
 }
+
+#[test]
+fn extract_if(rt: HostRuntime) -> Result<(), Fail> {
+    let cache: Cache<u64, u64> = Cache::new(rt.alloc(), 100)?;
+    for key in 1..4u64 {
+        expect_eq!(rt; cache.insert(&rt, key, key * 10), Ok(()));
+    }
+    let mut odd = cache.extract_if(&rt, |key, _| *key % 2 == 1);
+    let taken = (odd.next().is_some(), odd.next().is_some(), odd.next());
+    expect_eq!(rt; (taken, cache.len(&rt)), ((true, true, None), 1));
+    Ok(())
+}

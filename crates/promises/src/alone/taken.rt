@@ -1,5 +1,9 @@
 //! What those rely on who take pairs out of a cache and tell its lifecycle.
-ghost use Rattle.std.specs.Prelude.{◌≡◌, ◌<◌, ◌∷◌, [], Some, length, ◌+◌, ◌^◌};
+ghost use Rattle.std.specs.Prelude.{◌≡◌, ◌<◌, ◌≤◌, ◌⊎◌, ◌==◌, ◌∷◌, [], ℕ, Some, IfSome, IfNone, length, ◌+◌, ◌^◌};
+ghost use Rattle.std.specs.List.{Contains};
+ghost use Rattle.quick_cache_model.specs.CacheState.{Item};
+ghost use Rattle.quick_cache_model.specs.Finding.{HasNoItem};
+ghost use Rattle.quick_cache_shard.specs.Shard.{residents};
 ghost use Rattle.quick_cache_listeners.specs.declared.causes.cause.Cause.{Cause};
 
 use crate::alone::listened::{LastCause, Odd};
@@ -7,6 +11,8 @@ use quick_cache_listeners::{
     ByLength, Cause, Collect, Collected, Counted, CountedByThreads, Counts, OnLeave, OnLeaveWhy,
     PinBy, PinHeld, Request, SharedTallies, TellsTaken,
 };
+use quick_cache_unsync::Cache;
+use std::hash::BuildHasher;
 use std::rc::Rc;
 use std::sync::Arc;
 
@@ -84,4 +90,31 @@ pub fn hear_of_none(heard: &mut Request<Option<Cause>>)
 {
     let none: Option<(u64, u64)> = None;
     OnLeaveWhy(LastCause).tell_each_taken(heard, none.into_iter(), Cause::Removed);
+}
+
+/// What a predicate wants is given and gone, and what it does not want stays. None is given only where
+/// it wants none.
+pub fn take_one_above<We, B: BuildHasher, L>(
+    cache: &mut Cache<u64, u64, We, B, L>,
+    least: u64,
+) -> Option<(u64, u64)>
+    ensures wanted { IfSome result (λ pair. least < pair.1) }
+    ensures gone { IfSome result (λ pair. HasNoItem (λ key. pair.0 == key) cache.new.state) }
+    ensures stays { (item : Item ℕ ℕ) → Contains (residents cache.old.state) item
+        → item.value ≤ least → Contains (residents cache.new.state) item }
+    ensures none { IfNone result (cache.new ≡ cache.old) }
+{
+    cache.extract_if(|_, value| *value > least).next()
+}
+
+/// Each pair that it gives may be told.
+pub fn hear_of_those_above<We, B: BuildHasher, L>(
+    heard: &mut Request<Option<Cause>>,
+    cache: &mut Cache<u64, u64, We, B, L>,
+    least: u64,
+)
+    ensures { (heard.new ≡ heard.old) ⊎ (heard.new.state ≡ Some Cause.Retained) }
+{
+    let wanted = cache.extract_if(|_, value| *value > least);
+    OnLeaveWhy(LastCause).tell_each_taken(heard, wanted, Cause::Retained);
 }

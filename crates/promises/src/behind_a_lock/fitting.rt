@@ -1,5 +1,5 @@
 //! What a caller relies on that sees values under the lock of the shared cache: they fit.
-ghost use Rattle.std.specs.Prelude.{◌≡◌, ◌<◌, ◌≤◌, IfOk, IfSome, None, Some};
+ghost use Rattle.std.specs.Prelude.{◌≡◌, ◌<◌, ◌≤◌, ◌/◌, IfOk, IfSome, None, Some};
 ghost use Rattle.quick_cache_expiring.specs.Looks.{IfRetain};
 
 use quick_cache_guard::{EntryResult, Fetched, GuardResult};
@@ -205,6 +205,15 @@ pub fn take_large<R: Wait>(rt: &R, shares: &Shares, key: &u64, sum: u64) -> Opti
 /// And one at pairs that fit to a retain.
 pub fn keep_small<R: Wait>(rt: &R, shares: &Shares, sum: u64) {
     shares.retain(rt, |key, value| *key < sum / *value);
+}
+
+/// And one to a walk, which gives what it wants, and what fits.
+pub fn take_one_above<R: Wait>(rt: &R, shares: &Shares, sum: u64) -> Option<(u64, u64)>
+    ensures wanted { IfSome result (λ pair. sum / pair.1 < pair.0) }
+    ensures fits { IfSome result (λ pair. 0 < pair.1) }
+{
+    let mut walk = shares.extract_if(rt, |key, value| *key > sum / *value);
+    walk.next()
 }
 
 /// What comes back from a replace fits.

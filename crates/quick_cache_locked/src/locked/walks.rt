@@ -1,7 +1,10 @@
 //! Walks over a shard behind its lock, one step at a time.
 ghost use Rattle.std.specs.Prelude.{IfOk, IfSome};
-ghost use Rattle.quick_cache_shard.specs.WalksFrom.{number_or_zero};
 ghost use Rattle.quick_cache_shard.specs.Copies.{ClonesAreEqual};
+ghost use Rattle.quick_cache_shard.specs.Predicates.{Answers};
+ghost use Rattle.quick_cache_shard.specs.TakesWanted.{TakesNextWanted};
+ghost use Rattle.quick_cache_shard.specs.WalksFrom.{number_or_zero};
+ghost use Rattle.quick_cache_locked.specs.Asked.{MayBeAskedOfFitting};
 ghost use Rattle.quick_cache_locked.specs.Fitting.{ClonesFit};
 ghost use Rattle.quick_cache_locked.specs.Locked.{IsKept};
 ghost use Rattle.quick_cache_locked.specs.Walks.{ShowsNext, TakesNext};
@@ -65,5 +68,23 @@ impl<
     {
         self.facts();
         self.shard.remove_next(after)
+    }
+
+    /// Takes out the first item of greater token than this one that the predicate wants, if it wants
+    /// one. The pairs that it sees fit, and so does the one that is given.
+    pub fn take_next_if<F: Fn(&K, &V) -> bool>(
+        &mut self,
+        after: Option<Token>,
+        wanted: &F,
+    ) -> Option<(Token, K, V)>
+        requires callable { MayBeAskedOfFitting L.fits F.Fn wanted.now }
+        ensures takes { TakesNextWanted (Answers F.Fn wanted.now) (number_or_zero after) self.old
+            result self.new }
+        ensures fits { IfSome result (λ taken. L.fits taken.1 taken.2) }
+        ensures same { KeepsWork self.old self.new }
+        ensures kept { IsKept L.Lifecycle K.eq self.old }
+    {
+        self.facts();
+        self.shard.take_next_if(after, wanted)
     }
 }

@@ -1,25 +1,10 @@
-use Rattle.std.proofs.Common.{◌≡◌, ℕ, ◌+◌, ◌<◌, ◌≤◌, refl, ap, subst, inl, arith}
+use Rattle.std.proofs.Common.{◌<◌, ◌≤◌, refl, ap, subst, inl, arith}
 use Rattle.std.specs.Int.NonZero.{non_zero_u32_get as number}
-use Rattle.std.specs.Iterator.{size}
 use Rattle.quick_cache_shard.specs.WalksFrom.{number_or_zero}
 use Rattle.quick_cache_sync.specs.Shards.{Division}
-use Rattle.quick_cache_sync.specs.Walks.{ComesTo, EndsUpTo, tokens_ahead}
-use Rattle.quick_cache_sync.proofs.WalkLemmas.{ComesTo-next, EndsUpTo-first, EndsUpTo-next}
+use Rattle.quick_cache_sync.specs.Walks.{ComesTo, EndsUpTo}
+use Rattle.quick_cache_sync.proofs.WalkLemmas.{ComesTo-next, EndsUpTo-first, EndsUpTo-next, tokens_ahead-farther, tokens_ahead-nearer}
 use Rattle.quick_cache_sync.proofs.calls.walks.DrainIterator.next.Goals as goal
-
--- a later token of the shard is nearer to the end
-nearer : (shards same first began shard after index token : ℕ) → same ≡ shards → shard ≡ index
-    → after < token → token ≤ 4294967296
-    → size (tokens_ahead shards shard after) ≤ size (tokens_ahead shards first began)
-    → size (tokens_ahead same index token) < size (tokens_ahead shards first began)
-nearer shards same first began shard after index token is at above within ahead =
-    omega (arith, is, at, above, within, ahead)
-
--- and so is the next shard
-farther : (shards first began shard after index : ℕ) → shard ≡ index → index < shards
-    → size (tokens_ahead shards shard after) ≤ size (tokens_ahead shards first began)
-    → size (tokens_ahead shards (index + 1) 0) ≤ size (tokens_ahead shards first began)
-farther shards first began shard after index at below ahead = omega (arith, at, below, ahead)
 
 pub loop-index-init : goal.loop-index-init
 loop-index-init g c = (
@@ -62,7 +47,7 @@ returns-in-Some-clause-goes g c =
       on = λ finite. (
         tt,
         finite,
-        nearer c.args.self.now.cache.now.shards c.loop-index.self.cache.now.shards
+        tokens_ahead-nearer c.args.self.now.cache.now.shards c.loop-index.self.cache.now.shards
             c.args.self.now.shard (number_or_zero c.args.self.now.after) c.loop-index.self.shard
             (number_or_zero c.loop-index.self.after) c.loop-index.index (number c.in-Some.token)
             (ap (λ cache. cache.now.shards) invariant.0) invariant.1
@@ -85,7 +70,7 @@ loop-index-preserved g c =
     ) in (
       invariant.0,
       refl,
-      farther c.args.self.now.cache.now.shards c.args.self.now.shard
+      tokens_ahead-farther c.args.self.now.cache.now.shards c.args.self.now.shard
           (number_or_zero c.args.self.now.after) c.loop-index.self.shard
           (number_or_zero c.loop-index.self.after) c.loop-index.index invariant.1 below invariant.2,
       ComesTo-next (c.args.self.now.shard, c.args.self.now.after) c.loop-index.self.shard

@@ -1,0 +1,126 @@
+use Rattle.std.proofs.Common.{◌<◌, ◌≤◌, Some, None, refl, ap, sym, subst, inl, arith}
+use Rattle.std.specs.Int.NonZero.{non_zero_u32_get as number}
+use Rattle.quick_cache_shard.specs.Predicates.{Answers}
+use Rattle.quick_cache_shard.specs.Shard.{Shard}
+use Rattle.quick_cache_shard.specs.TakesWanted.{TakesNextWanted, WantsNone}
+use Rattle.quick_cache_shard.specs.WalksFrom.{number_or_zero}
+use Rattle.quick_cache_locked.specs.Asked.{MayBeAskedOfFitting}
+use Rattle.quick_cache_sync.specs.Shards.{Division}
+use Rattle.quick_cache_sync.specs.Walks.{ComesTo, WantsNoneUpTo}
+use Rattle.quick_cache_sync.proofs.WalkLemmas.{ComesTo-next, IsSoUpTo-first, IsSoUpTo-next, tokens_ahead-farther, tokens_ahead-nearer}
+use Rattle.quick_cache_sync.proofs.calls.extracting.ExtractIfIterator.next.Goals as goal
+
+pub loop-index-init : goal.loop-index-init
+loop-index-init g c = record {
+  cache = refl;
+  wanted = refl;
+  at = refl;
+  ahead = omega arith;
+  comes = inl (refl, refl);
+  none = IsSoUpTo-first g.L.Lifecycle g.K.PartialEq.eq _
+      (c.args.self.now.shard, c.args.self.now.after);
+}
+
+-- the predicate is as at first
+pub take_next_if-step-requires : goal.take_next_if-step-requires
+take_next_if-step-requires g c = record {
+  callable = subst (λ wanted. MayBeAskedOfFitting g.L.fits g.F.Fn wanted)
+      (sym c.loop-index.invariant.wanted) c.requires.can;
+}
+
+pub returns-in-Some-clause-steps : goal.returns-in-Some-clause-steps
+returns-in-Some-clause-steps g c =
+    let old = (c.args.self.now.shard, c.args.self.now.after) in
+    let after = number_or_zero c.loop-index.self.after in
+    let invariant = c.loop-index.invariant in (
+      (
+        c.in-Some.token,
+        after,
+        subst (λ shard. ComesTo old shard after) invariant.at invariant.comes,
+        refl,
+        record {
+          shard = c.deref_mut.result.now;
+          kept = c.in-Some.ensures.kept;
+          holds = (
+            c.take_next_if-step.new.self,
+            subst (λ wanted. TakesNextWanted (Answers g.F.Fn wanted) after
+                c.deref_mut.result.now
+                (Some (c.in-Some.token, c.in-Some.key, c.in-Some.value))
+                c.take_next_if-step.new.self) invariant.wanted c.in-Some.ensures.takes,
+          );
+        },
+      ),
+      c.in-Some.ensures.fits,
+      subst (λ shard. WantsNoneUpTo g.L.Lifecycle g.K.PartialEq.eq g.row.We.Denot g.row.B.Denot
+          (Answers g.F.Fn c.args.self.now.wanted) old shard) invariant.at invariant.none,
+      tt,
+      invariant.wanted,
+    )
+
+-- the token is above the last one
+pub returns-in-Some-clause-goes : goal.returns-in-Some-clause-goes
+returns-in-Some-clause-goes g c =
+    let invariant = c.loop-index.invariant in
+    let within : number c.in-Some.token ≤ 4294967296 = omega (arith, c.get-number.ensures) in
+    let can = subst (λ wanted. MayBeAskedOfFitting g.L.fits g.F.Fn wanted)
+    (sym invariant.wanted) c.requires.can in
+    record {
+      on = λ finite. (
+        can,
+        finite,
+        tokens_ahead-nearer c.args.self.now.cache.now.shards c.loop-index.self.cache.now.shards
+            c.args.self.now.shard (number_or_zero c.args.self.now.after) c.loop-index.self.shard
+            (number_or_zero c.loop-index.self.after) c.loop-index.index (number c.in-Some.token)
+            (ap (λ cache. cache.now.shards) invariant.cache) invariant.at
+            c.in-Some.ensures.takes.first.above within invariant.ahead,
+      );
+      keeps = can;
+      rests = λ _. tt;
+    }
+
+-- the next shard begins anew, and in the one before no more was wanted
+pub loop-index-preserved : goal.loop-index-preserved
+loop-index-preserved g c =
+    let old = (c.args.self.now.shard, c.args.self.now.after) in
+    let after = number_or_zero c.loop-index.self.after in
+    let invariant = c.loop-index.invariant in
+    let below : c.loop-index.index < c.args.self.now.cache.now.shards =
+    omega (
+      arith,
+      c.loop-index-test.true,
+      c.len-index-end.ensures,
+      ap (λ (d : Division _). d.shards) c.cache.view_is,
+    ) in record {
+      cache = invariant.cache;
+      wanted = invariant.wanted;
+      at = refl;
+      ahead = tokens_ahead-farther c.args.self.now.cache.now.shards c.args.self.now.shard
+          (number_or_zero c.args.self.now.after) c.loop-index.self.shard after
+          c.loop-index.index invariant.at below invariant.ahead;
+      comes = ComesTo-next old c.loop-index.self.shard after c.loop-index.index invariant.at
+          invariant.comes;
+      none = IsSoUpTo-next g.L.Lifecycle g.K.PartialEq.eq _ old c.loop-index.self.shard after
+          c.loop-index.index invariant.at invariant.comes
+          (record {
+            shard = c.deref_mut.result.now;
+            kept = c.in-None.ensures.kept;
+            holds = subst (λ wanted. WantsNone (Answers g.F.Fn wanted) after
+                c.deref_mut.result.now) invariant.wanted c.in-None.ensures.takes.0;
+          }) invariant.none;
+    }
+
+-- behind the last shard it ends
+pub returns-clause-steps : goal.returns-clause-steps
+returns-clause-steps g c = (
+  tt,
+  tt,
+  c.loop-index.invariant.none,
+  omega (
+    arith,
+    c.loop-index-test.false,
+    c.loop-index.invariant.at,
+    c.len-index-end.ensures,
+    ap (λ (d : Division _). d.shards) c.cache.view_is,
+  ),
+  c.loop-index.invariant.wanted,
+)
