@@ -1,5 +1,5 @@
 //! What those rely on who bound, fill or purge a cache for one thread whose entries end, or claim a load.
-ghost use Rattle.std.specs.Prelude.{◌≡◌, ◌≤◌, ◌+◌, ℕ, IfOk, OnErr, Ok, true, false};
+ghost use Rattle.std.specs.Prelude.{◌≡◌, ℕ, IfNone, IfOk, IfSome, OnErr, Ok, true, false};
 ghost use Rattle.std.specs.List.{Contains};
 ghost use Rattle.quick_cache_model.specs.CacheState.{Item};
 ghost use Rattle.quick_cache_model.specs.Finding.{HasNoItem};
@@ -8,8 +8,7 @@ ghost use Rattle.quick_cache_shard.specs.Shard.{residents};
 ghost use Rattle.quick_cache_expiring.specs.declared.lasting.Lasting.{Lasting};
 ghost use Rattle.quick_cache_expiring.specs.Lives.{lives};
 
-use quick_cache_expiring::{Expiring, LoadError, Loaded, Refusal};
-use std::hash::Hash;
+use quick_cache_expiring::{Expiring, Lasting, LoadError, Loaded, Refusal};
 
 /// The capacity is the one that was set last, and no more is told to be over.
 pub fn set_and_tell(entries: &mut Expiring<u64, u64>, capacity: u64) -> u64
@@ -70,6 +69,14 @@ pub fn purge_and_keep(entries: &mut Expiring<u64, u64>, now: u64, at_most: usize
         → lives item.value.until now ≡ true → Contains (residents entries.new.cache.state) item }
 {
     entries.purge_some(now, at_most);
+}
+
+/// What is given was over. Where none is given, all is as it was.
+pub fn take_one_over(entries: &mut Expiring<u64, u64>, now: u64) -> Option<(u64, Lasting<u64>)>
+    ensures over { IfSome result (λ pair. lives pair.1.until now ≡ false) }
+    ensures none { IfNone result (entries.new ≡ entries.old) }
+{
+    entries.take_over(now).next()
 }
 
 /// A load is claimed once at a moment.
