@@ -7,5 +7,5 @@ use Rattle.quick_cache_expiring.proofs.alone.expiring.Expiring.take_next_over.Go
 pub returns-clause-takes : goal.returns-clause-takes
 returns-clause-takes g c =
     rw (← c.self.view_is)
-    (TakesNextWanted-told _ (IsOverAt c.args.now) (λ key lasting said told. search rules) _ _ _ _
+    (TakesNextWanted-told _ _ (IsOverAt c.args.now) (λ key lasting said told. search rules) _ _ _ _
     c.take_next_if.ensures.takes)
