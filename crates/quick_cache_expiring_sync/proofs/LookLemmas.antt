@@ -16,7 +16,7 @@ use Rattle.quick_cache_expiring.specs.declared.lasting.Lasting.{Lasting}
 use Rattle.quick_cache_expiring.specs.Entries.{AnswersAt}
 use Rattle.quick_cache_expiring.specs.Lastings.{ClonesLasting}
 use Rattle.quick_cache_expiring.specs.Lives.{lives}
-use Rattle.quick_cache_expiring_sync.specs.Looks.{FitsAt, ShowsAt, ShowsEnd, serving}
+use Rattle.quick_cache_expiring_sync.specs.Looks.{FitsAt, ShowsAt, ShowsEnd, ShowsServing, serving}
 
 -- what holds of some shard does so in other words
 pub FromSome-map : {K V We B L S : Type 0} (life : lifecycle.Ghosts L K V S)
@@ -85,12 +85,22 @@ module _ {K V : Type 0} (test : K → Bool) (is_clone : V → V → Type 0)
   ShowsEnd-found lasting is seen =
       (lasting.value, subst (Peeks test (ClonesLasting is_clone) state) is seen)
 
--- a call that does not wait is refused as one that does, in other words
-pub IsTried-refused : {T U : Type 0} (P : Result T Refusal → Type 0) (Q : Result U Refusal → Type 0)
-    → ((refusal : Refusal) → P (Err refusal) → Q (Err refusal)) → (error : TryError)
-    → IsTried P (Err error) → IsTried Q (Err error)
-IsTried-refused P Q says (TryError.Contended contention) tried = tt
-IsTried-refused P Q says (TryError.Refused refusal) tried = says refusal tried
+-- a look that does not wait is refused as one that does
+pub IsTried-refused : {K V L S : Type 0} (We B : Type 0) (life : lifecycle.Ghosts L K (Lasting V) S)
+    (equal : K → K → Bool) (test : K → Bool) (is_clone : V → V → Type 0) (now : ℕ)
+    (error : TryError)
+    → IsTried
+    (λ answer. FromSome life equal (λ (shard : Shard K (Lasting V) We B L).
+    Peeks test (ClonesLasting is_clone) shard.state answer)) (Err error)
+    → IsTried
+    (λ answer. FromSome life equal (λ (shard : Shard K (Lasting V) We B L).
+    ShowsServing test is_clone now shard.state answer)) (Err error)
+IsTried-refused We B life equal test is_clone now (TryError.Contended contention) tried = tt
+IsTried-refused We B life equal test is_clone now (TryError.Refused refusal) tried = record {
+  shard = tried.shard;
+  kept = tried.kept;
+  holds = record { found = Err refusal; peeks = tried.holds; serves = refl };
+}
 
 module _ {K V : Type 0} (fits : K → Lasting V → Type 0) (test : K → Bool) (now : ℕ) where
   given-fitting : (lasting : Lasting V) → FitsQuery fits test lasting → (live : Bool)

@@ -189,47 +189,15 @@ impl<
             → F.gives self.old.loader x) }
     {
         let entries = self.entries;
-        match replace(&mut self.task, Task::Finished) {
-            Task::Looks => {
-                let asks = entries.cache.get_value_or_guard_async(self.rt, self.query);
-                self.ask(asks, cx)
-            }
-            Task::Asks(asks) => self.ask(asks, cx),
+        let mut asks = match replace(&mut self.task, Task::Finished) {
+            Task::Looks => entries.cache.get_value_or_guard_async(self.rt, self.query),
+            Task::Asks(asks) => asks,
             Task::Loads(guard) => {
                 let mut guard = guard;
-                self.load(&mut guard, cx)
+                return self.load(&mut guard, cx);
             }
-            Task::Finished => Poll::Ready(Err(Refusal::Finished)),
-        }
-    }
-
-    /// Asks for the value or the guard.
-    fn ask(
-        &mut self,
-        asks: ValueOrGuard<'a, 'a, Q, K, Lasting<V>, L, ShardOf<K, V, We, B, L, A>, R, A>,
-        cx: &mut Context<'_>,
-    ) -> Poll<Result<Result<V, E>, Refusal>>
-        requires taken { self.old.is_finished ≡ true }
-        requires query { asks.query ≡ self.old.query }
-        requires goes_on { asks.is_finished ≡ false }
-        requires can_poll { F.can_poll self.old.loader }
-        requires loads { (value : V) → F.gives self.old.loader (Ok value) → (key : K)
-            → Q.to_key_gives self.old.query key → L.fits key (lasting_of value self.old.until) }
-        requires clones { ClonesFit L.fits (ClonesLasting V.is_clone) }
-        ensures gives { IfReady result (IfLoaded
-            (GivesAt L.fits (Q.equivalent self.old.query) (F.gives self.old.loader) self.old.moment)
-            (λ error. F.gives self.old.loader (Err error))) }
-        ensures once { AnswersOnce IsRefusedAsLoad (Err Refusal.Finished) false result
-            self.new.is_finished }
-        ensures registers { Registers (HasPlace self.new)
-            (NeedsOf F.needs self.new.is_loading self.new.source self.new.loader) result
-            cx.old cx.new }
-        ensures query { self.new.query ≡ self.old.query }
-        ensures moment { self.new.moment ≡ self.old.moment }
-        ensures loader { OnPending result ((x : _) → F.gives self.new.loader x
-            → F.gives self.old.loader x) }
-    {
-        let mut asks = asks;
+            Task::Finished => return Poll::Ready(Err(Refusal::Finished)),
+        };
         match asks.go_on(cx) {
             Poll::Pending => {
                 self.task = Task::Asks(asks);

@@ -1,4 +1,4 @@
-use Rattle.std.proofs.Common.{Ok, Err, IfSome, ap, refl, subst, sym}
+use Rattle.std.proofs.Common.{Ok, IfSome, ap, subst, sym}
 use Rattle.quick_cache_expiring_sync.specs.Looks.{FitsAt}
 use Rattle.quick_cache_expiring_sync.proofs.LookLemmas.{FitsAt-serving, FromSome-map, IsTried-refused}
 use Rattle.quick_cache_expiring_sync.proofs.shared.SharedExpiring.try_peek.Goals as goal
@@ -25,7 +25,5 @@ returns-in-Ok-clause-fits g c clones =
 -- or it was refused
 pub returns-in-Err-clause-answers : goal.returns-in-Err-clause-answers
 returns-in-Err-clause-answers g c =
-    IsTried-refused _ _
-    (λ refusal. FromSome-map g.L.Lifecycle g.K.PartialEq.eq _ _
-    (λ shard so. record { found = Err refusal; peeks = so; serves = refl })) c.in-Err.error
-    c.in-Err.ensures.answers
+    IsTried-refused _ _ g.L.Lifecycle g.K.PartialEq.eq (g.Q.Equivalent.equivalent c.args.query.now)
+    g.V.Clone.is_clone c.args.now c.in-Err.error c.in-Err.ensures.answers
