@@ -8,6 +8,8 @@ mod looking;
 #[cfg(test)]
 mod making;
 #[cfg(test)]
+mod pages;
+#[cfg(test)]
 mod promises;
 #[cfg(test)]
 mod runs;

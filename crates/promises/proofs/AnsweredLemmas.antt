@@ -19,7 +19,7 @@ use Rattle.quick_cache_unsync.specs.declared.loading.not_loaded.LoadError.{LoadE
 module _ {K V : Type 0} (stands_for : K → Bool) (old : CacheState K V)
     (none : HasNoItem stands_for old) where
   -- no item is there
-  no-item : (place : Place) (before : List (Item K V)) (item : Item K V) (after : List (Item K V))
+  pub no-item : (place : Place) (before : List (Item K V)) (item : Item K V) (after : List (Item K V))
       → IsItemAt stands_for old place before item after → ⊥
   no-item InHot before item after at =
       true≢false (sym at.passes

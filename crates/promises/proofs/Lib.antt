@@ -12,3 +12,5 @@ mod SharedLemmas
 mod TakenLemmas
 mod ToldLemmas
 mod TurnLemmas
+mod EndedLemmas
+mod TestedLemmas

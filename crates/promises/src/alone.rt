@@ -14,4 +14,5 @@ pub mod runs;
 pub mod saved;
 pub mod served;
 pub mod taken;
+pub mod tested;
 pub mod weighed;

@@ -6,3 +6,4 @@ pub mod Entries
 pub mod Purges
 pub mod Lent
 pub mod Loads
+pub mod Over

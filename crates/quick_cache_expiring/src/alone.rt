@@ -3,5 +3,6 @@
 pub mod expiring;
 pub mod gets;
 pub mod loads;
+pub mod over;
 pub mod purging;
 pub mod writes;

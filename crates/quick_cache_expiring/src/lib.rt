@@ -8,6 +8,7 @@ mod lasting;
 mod loaded;
 
 pub use alone::expiring::Expiring;
+pub use alone::over::TakeOver;
 pub use by_value::ByValue;
 pub use lasting::{Lasting, end_of};
 pub use loaded::Loaded;

@@ -2,3 +2,4 @@ mod LookLemmas
 mod PurgeLemmas
 mod RenewLemmas
 mod TellLemmas
+mod TaskLemmas

@@ -1,5 +1,5 @@
 -- Looks at entries that end, from looks at values with their ends.
-use Rattle.std.proofs.Common.{◌≡◌, ℕ, Bool, true, Option, Some, None, Result, Ok, Err, ap, subst, sym, ◌∙◌}
+use Rattle.std.proofs.Common.{◌≡◌, ℕ, Bool, true, false, Option, Some, None, Result, Ok, Err, IfSome, ap, refl, subst, sym, ◌∙◌, if◌then◌else◌}
 use Rattle.std.specs.Result.{IsErrAnd}
 use Rattle.std.proofs.lemmas.Result.{err_from_is_err_and}
 use Rattle.quick_cache_model.specs.declared.refusal.Refusal.{Refusal}
@@ -10,11 +10,13 @@ use Rattle.quick_cache_locked.specs.Locked.{FromSome}
 use Rattle.quick_cache_locked.specs.Fitting.{FitsQuery}
 use Rattle.quick_cache_locked.specs.Peeks.{Miss, Peeks, PeeksIf}
 use Rattle.quick_cache_shard.proofs.TestLemmas.{PeeksIf-weaker}
+use Rattle.quick_cache_sync.specs.Tries.{IsTried}
+use Rattle.quick_cache_sync.specs.declared.error.TryError.{TryError}
 use Rattle.quick_cache_expiring.specs.declared.lasting.Lasting.{Lasting}
 use Rattle.quick_cache_expiring.specs.Entries.{AnswersAt}
 use Rattle.quick_cache_expiring.specs.Lastings.{ClonesLasting}
 use Rattle.quick_cache_expiring.specs.Lives.{lives}
-use Rattle.quick_cache_expiring_sync.specs.Looks.{FitsAt, ShowsAt, ShowsEnd}
+use Rattle.quick_cache_expiring_sync.specs.Looks.{FitsAt, ShowsAt, ShowsEnd, ShowsServing, serving}
 
 -- what holds of some shard does so in other words
 pub FromSome-map : {K V We B L S : Type 0} (life : lifecycle.Ghosts L K V S)
@@ -82,3 +84,35 @@ module _ {K V : Type 0} (test : K → Bool) (is_clone : V → V → Type 0)
       → ShowsEnd test is_clone state (Ok (Some lasting.until))
   ShowsEnd-found lasting is seen =
       (lasting.value, subst (Peeks test (ClonesLasting is_clone) state) is seen)
+
+-- a look that does not wait is refused as one that does
+pub IsTried-refused : {K V L S : Type 0} (We B : Type 0) (life : lifecycle.Ghosts L K (Lasting V) S)
+    (equal : K → K → Bool) (test : K → Bool) (is_clone : V → V → Type 0) (now : ℕ)
+    (error : TryError)
+    → IsTried
+    (λ answer. FromSome life equal (λ (shard : Shard K (Lasting V) We B L).
+    Peeks test (ClonesLasting is_clone) shard.state answer)) (Err error)
+    → IsTried
+    (λ answer. FromSome life equal (λ (shard : Shard K (Lasting V) We B L).
+    ShowsServing test is_clone now shard.state answer)) (Err error)
+IsTried-refused We B life equal test is_clone now (TryError.Contended contention) tried = tt
+IsTried-refused We B life equal test is_clone now (TryError.Refused refusal) tried = record {
+  shard = tried.shard;
+  kept = tried.kept;
+  holds = record { found = Err refusal; peeks = tried.holds; serves = refl };
+}
+
+module _ {K V : Type 0} (fits : K → Lasting V → Type 0) (test : K → Bool) (now : ℕ) where
+  given-fitting : (lasting : Lasting V) → FitsQuery fits test lasting → (live : Bool)
+      → live ≡ lives lasting.until now
+      → IfSome (if live then Some lasting.value else None) (FitsAt fits test now)
+  given-fitting lasting fit true is =
+      record { until = lasting.until; lives_then = sym is; fits_query = fit }
+  given-fitting lasting fit false is = tt
+
+  -- what serves of what was found fits with an end that is not reached
+  pub FitsAt-serving : (found : Option (Lasting V)) → IfSome found (FitsQuery fits test)
+      → IfSome (serving now found) (FitsAt fits test now)
+  FitsAt-serving None fit = tt
+  FitsAt-serving (Some lasting) fit =
+      given-fitting lasting fit (lives lasting.until now) refl

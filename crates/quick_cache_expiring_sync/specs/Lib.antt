@@ -1,4 +1,6 @@
 pub mod Looks
+pub mod Many
 pub mod Purges
 pub mod Renewals
 pub mod Loads
+pub mod Tasks

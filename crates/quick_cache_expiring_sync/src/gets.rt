@@ -7,13 +7,14 @@ ghost use Rattle.quick_cache_sync.specs.Answers.{RemovesAskedSo};
 ghost use Rattle.quick_cache_expiring.specs.Lives.{lives};
 ghost use Rattle.quick_cache_expiring.specs.declared.lasting.Lasting.{Lasting};
 ghost use Rattle.quick_cache_expiring.specs.declared.by_value.ByValue.{ByValue};
-ghost use Rattle.quick_cache_expiring_sync.specs.Looks.{ShowsAt, ShowsEnd, ShowsFittingAt};
+ghost use Rattle.quick_cache_sync.specs.Tries.{IsTried};
+ghost use Rattle.quick_cache_expiring_sync.specs.Looks.{ShowsAt, ShowsEnd, ShowsFittingAt, ShowsServing, serving};
 ghost use Rattle.quick_cache_expiring_sync.specs.Purges.{GoesWhereOver};
 
 use crate::shared::SharedExpiring;
 use quick_cache_expiring::{ByValue, Lasting};
 use quick_cache_model::{Equivalent, Lifecycle, Refusal};
-use quick_cache_sync::Miss;
+use quick_cache_sync::{Miss, TryError};
 use std::alloc::Allocator;
 use std::hash::{BuildHasher, Hash};
 use std::sync::Wait;
@@ -90,6 +91,55 @@ impl<
         }
     }
 
+    /// As `get`, without waiting: it tries the read lock of the key's shard once. An entry that is
+    /// over is cloned first, counts as a miss and as expired, and stays.
+    ///
+    /// # Errors
+    ///
+    /// `Contended` where a call that writes had the lock or waited for it; `Refused` with `Memory`
+    /// where the clone failed. Nothing was counted then.
+    pub fn try_get<Q: Equivalent<K>>(&self, query: &Q, now: u64) -> Result<Option<V>, TryError>
+        ensures answers { IsTried (λ answer. FromSome L.Lifecycle K.eq
+            (λ (shard : Shard K (Lasting V) (ByValue We) B L).
+            ShowsServing (Q.equivalent query.now) V.is_clone now shard.state answer)) result }
+        ensures fits { ShowsFittingAt L.fits (Q.equivalent query.now) V.is_clone now result }
+    {
+        match self.cache.try_get(query) {
+            Ok(found) => {
+                self.count_over(&found, now);
+                Ok(serving(found, now))
+            }
+            Err(error) => Err(error),
+        }
+    }
+
+    /// As `peek`, without waiting: it tries the read lock of the key's shard once. An entry that is
+    /// over is cloned first.
+    ///
+    /// # Errors
+    ///
+    /// `Contended` where a call that writes had the lock or waited for it; `Refused` with `Memory`
+    /// where the clone failed.
+    pub fn try_peek<Q: Equivalent<K>>(&self, query: &Q, now: u64) -> Result<Option<V>, TryError>
+        ensures answers { IsTried (λ answer. FromSome L.Lifecycle K.eq
+            (λ (shard : Shard K (Lasting V) (ByValue We) B L).
+            ShowsServing (Q.equivalent query.now) V.is_clone now shard.state answer)) result }
+        ensures fits { ShowsFittingAt L.fits (Q.equivalent query.now) V.is_clone now result }
+    {
+        match self.cache.try_peek(query) {
+            Ok(found) => Ok(serving(found, now)),
+            Err(error) => Err(error),
+        }
+    }
+
+    /// Counts that a look found what is over, which the cache counted as a hit.
+    fn count_over(&self, found: &Option<Lasting<V>>, now: u64) {
+        if is_over(found, now) {
+            self.not_hits.fetch_add(1, Ordering::SeqCst);
+            self.expired.fetch_add(1, Ordering::SeqCst);
+        }
+    }
+
     /// The end of the entry under the query's key, be it over or not. It is no use of the entry, and
     /// nothing changes. It takes the read lock of the key's shard, and makes a clone of the value.
     ///
@@ -123,7 +173,7 @@ impl<
 > SharedExpiring<K, V, We, B, L, A> {
     /// Counts that a look found what is over, and takes that out by one step that asks once more,
     /// since another may have stored what serves. It gives what it took out.
-    fn expires<Q: Equivalent<K>, R: Wait>(
+    pub(crate) fn expires<Q: Equivalent<K>, R: Wait>(
         &self,
         rt: &R,
         query: &Q,
@@ -139,5 +189,29 @@ impl<
             ensures over { result ≡ not (lives lasting.now.until now) }
         { !lasting.lives(now) };
         self.cache.remove_if(rt, query, is_over)
+    }
+}
+
+/// Whether something was found that is over.
+pub(crate) fn is_over<V>(found: &Option<Lasting<V>>, now: u64) -> bool {
+    match found {
+        Some(lasting) => !lasting.lives(now),
+        None => false,
+    }
+}
+
+/// What was found, where it serves.
+pub(crate) fn serving<V: Drop>(found: Option<Lasting<V>>, now: u64) -> Option<V>
+    ensures { result ≡ serving now found }
+{
+    match found {
+        Some(lasting) => {
+            if lasting.lives(now) {
+                Some(lasting.value)
+            } else {
+                None
+            }
+        }
+        None => None,
     }
 }

@@ -1,13 +1,17 @@
 //! Values that a loader gives where none serves.
-ghost use Rattle.std.specs.Prelude.{◌≡◌, Ok, Err, IfOk, IfErr, IfSome};
+ghost use Rattle.std.specs.Prelude.{◌≡◌, Ok, Err, None, IfOk, IfErr, IfSome, false};
 ghost use Rattle.quick_cache_guard.specs.Answers.{IsLoadRefusal};
+ghost use Rattle.quick_cache_guard.specs.Entries.{IfGuarded, IfRetained, IsRefusedAsLoad, is_late};
 ghost use Rattle.quick_cache_locked.specs.Fitting.{ClonesFit};
 ghost use Rattle.quick_cache_model.specs.Hashing.{StandsForGiven};
 ghost use Rattle.quick_cache_expiring.specs.Lives.{end_of};
 ghost use Rattle.quick_cache_expiring.specs.Lastings.{ClonesLasting, lasting_of};
 ghost use Rattle.quick_cache_expiring_sync.specs.Loads.{GivesAt, ChoosesToLoad};
+ghost use Rattle.quick_cache_expiring_sync.specs.Looks.{FitsAt};
 
+use crate::future::{GetOrInsertAt, GuardOf};
 use crate::shared::SharedExpiring;
+use futures::Future;
 use quick_cache_expiring::{Lasting, end_of};
 use quick_cache_guard::{EntryResult, GuardResult, LoadingShard, PlaceholderGuard};
 use quick_cache_model::{Lifecycle, Refusal, ToKey, Weighter};
@@ -16,7 +20,7 @@ use std::alloc::Allocator;
 use std::hash::{BuildHasher, Hash};
 use std::sync::Wait;
 use std::sync::atomic::Ordering;
-use std::time::Clock;
+use std::time::{Clock, Duration};
 
 impl<
     K: Eq + Hash + Drop,
@@ -78,8 +82,7 @@ impl<
         }
     }
 
-    /// The same where what was found is over: by an entry call, since another may have loaded the
-    /// key anew by now.
+    /// The same where what was found is over.
     fn load_anew<Q: ToKey<K>, R: Wait + Clock, E: Drop, F: FnOnce() -> Result<V, E>>(
         &self,
         rt: &R,
@@ -98,13 +101,8 @@ impl<
         ensures error { IfOk result (λ loaded. IfErr loaded (λ error. F.post loader (Err error))) }
         ensures refused { IfErr result IsLoadRefusal }
     {
-        let looks = |_key: &K, lasting: &mut Lasting<V>| -> EntryAction<Result<V, Refusal>>
-            ensures same { lasting.new ≡ lasting.old }
-            ensures chooses { ChoosesToLoad V.is_clone now lasting.old result }
-        { look(lasting, now) };
-        match self.cache.entry(rt, query, None, looks) {
-            EntryResult::Retained(Ok(value)) => Ok(Ok(value)),
-            EntryResult::Retained(Err(refusal)) => Err(refusal),
+        match self.look_anew(rt, query, now, None) {
+            EntryResult::Retained(value) => Ok(Ok(value)),
             EntryResult::Replaced(guard, _) => {
                 let mut guard = Some(guard);
                 Ok(fill_with(&mut guard, end_of(now, life), loader()))
@@ -118,6 +116,67 @@ impl<
             EntryResult::Timeout => unreachable!(),
             EntryResult::Refused(refusal) => Err(refusal),
         }
+    }
+
+    /// Looks at the entry once more, by an entry call, since another may have loaded the key anew by
+    /// now: a clone of what serves, or the right to load what does not.
+    pub(crate) fn look_anew<'a, Q: ToKey<K>, R: Wait + Clock>(
+        &'a self,
+        rt: &'a R,
+        query: &Q,
+        now: u64,
+        limit: Option<Duration>,
+    ) -> EntryResult<V, K, Lasting<V>, GuardOf<'a, K, V, We, B, L, R, A>>
+        requires stands { StandsForGiven (Q.to_key_gives query.now) (Q.equivalent query.now) }
+        requires clones { ClonesFit L.fits (ClonesLasting V.is_clone) }
+        ensures told { IfRetained result (FitsAt L.fits (Q.equivalent query.now) now) }
+        ensures key { IfGuarded result (λ key. Q.to_key_gives query.now key) }
+        ensures refused { IsRefusedAsLoad result }
+        ensures timely { limit ≡ None → is_late result ≡ false }
+    {
+        let looks = |_key: &K, lasting: &mut Lasting<V>| -> EntryAction<Result<V, Refusal>>
+            ensures same { lasting.new ≡ lasting.old }
+            ensures chooses { ChoosesToLoad V.is_clone now lasting.old result }
+        { look(lasting, now) };
+        match self.cache.entry(rt, query, limit, looks) {
+            EntryResult::Retained(Ok(value)) => EntryResult::Retained(value),
+            EntryResult::Retained(Err(refusal)) => EntryResult::Refused(refusal),
+            EntryResult::Replaced(guard, old) => EntryResult::Replaced(guard, old),
+            EntryResult::Vacant(guard) => EntryResult::Vacant(guard),
+            EntryResult::Removed(key, old) => EntryResult::Removed(key, old),
+            EntryResult::Timeout => EntryResult::Timeout,
+            EntryResult::Refused(refusal) => EntryResult::Refused(refusal),
+        }
+    }
+
+    /// A future that gives the value under the query's key, or the one that the loader's future
+    /// gives, as `get_or_insert_with` does. What it gives is said on `GetOrInsertAt`. The call takes
+    /// no lock; a poll does.
+    pub fn get_or_insert_async<
+        'a,
+        Q: ToKey<K>,
+        R: Wait + Clock,
+        E: Drop,
+        F: Future<Output = Result<V, E>>,
+    >(
+        &'a self,
+        rt: &'a R,
+        query: &'a Q,
+        now: u64,
+        life: u64,
+        loader: F,
+    ) -> GetOrInsertAt<'a, Q, K, V, We, B, L, R, F, E, A>
+        requires stands { StandsForGiven (Q.to_key_gives query.now) (Q.equivalent query.now) }
+        requires loader { F.can_poll loader }
+        requires loads { (value : V) → F.gives loader (Ok value) → (key : K)
+            → Q.to_key_gives query.now key → L.fits key (lasting_of value (end_of now life)) }
+        requires clones { ClonesFit L.fits (ClonesLasting V.is_clone) }
+        ensures query { result.query ≡ query.now }
+        ensures moment { result.moment ≡ now }
+        ensures loader { result.loader ≡ loader }
+        ensures begins { result.is_finished ≡ false }
+    {
+        GetOrInsertAt::new(rt, self, query, now, end_of(now, life), loader)
     }
 }
 
@@ -138,7 +197,7 @@ fn look<V: Clone>(lasting: &Lasting<V>, now: u64) -> EntryAction<Result<V, Refus
 
 /// Puts a clone of what was loaded in by the guard, with its end, and answers it. The guard is taken
 /// from where it stands, since a call that takes it by value gets no proof.
-fn fill_with<
+pub(crate) fn fill_with<
     K: Eq + Hash + Drop,
     V: Clone + Drop,
     L: Lifecycle<K, Lasting<V>>,

@@ -1,5 +1,5 @@
 //! A cache that threads share, whose entries end.
-ghost use Rattle.std.specs.Prelude.{◌≡◌, ◌≤◌, IfOk, IfErr};
+ghost use Rattle.std.specs.Prelude.{◌≡◌, ◌≤◌, ℕ, IfOk, IfErr};
 ghost use Rattle.quick_cache_model.specs.Sizes.{IsShardCount};
 ghost use Rattle.quick_cache_options.specs.Options.{default_shards};
 ghost use Rattle.quick_cache_shard.specs.Shard.{Shard};
@@ -199,6 +199,14 @@ impl<
         ensures capacity { AddsUp L.Lifecycle K.eq
             (λ (shard : Shard K (Lasting V) (ByValue We) B L) shown.
             Shows Count.Capacity shard.state shown) self.now.shards result.capacity }
+        // It tells no more hits than the cache behind it, and no fewer misses.
+        ensures hits { (counted : ℕ) × AddsUp L.Lifecycle K.eq
+            (λ (shard : Shard K (Lasting V) (ByValue We) B L) shown.
+            Shows Count.Hits shard.state shown) self.now.shards counted × (result.hits ≤ counted) }
+        ensures missed { (counted : ℕ) × AddsUp L.Lifecycle K.eq
+            (λ (shard : Shard K (Lasting V) (ByValue We) B L) shown.
+            Shows Count.Misses shard.state shown) self.now.shards counted
+            × (counted ≤ result.misses) }
         ensures misses { result.expired ≤ result.misses }
         ensures loads { (result.loads ≡ 0) × (result.failed_loads ≡ 0) }
     {

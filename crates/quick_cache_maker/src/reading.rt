@@ -6,12 +6,11 @@ ghost use Rattle.quick_cache_maker.specs.Made.{IsMakeError};
 
 use crate::error::MakeError;
 use crate::maker::{Maker, Unnamed};
-use quick_cache_model::DefaultHashBuilder;
 use read_through::{ReadThrough, Source};
 use std::alloc::Allocator;
-use std::hash::Hash;
+use std::hash::{BuildHasher, Hash};
 
-impl<We: Clone + Drop> Maker<We, DefaultHashBuilder, Unnamed> {
+impl<We: Clone + Drop, B: BuildHasher + Clone + Drop> Maker<We, B, Unnamed> {
     /// A loader with an empty cache of its values, which live for as long as `lives` says: a number,
     /// or an impl of `Lives`. It takes no lock, and allocates the list of the cache's shards alone.
     ///
@@ -25,7 +24,12 @@ impl<We: Clone + Drop> Maker<We, DefaultHashBuilder, Unnamed> {
         S: Source<K, V>,
         A: Allocator + Clone,
         Li: Drop,
-    >(self, alloc: A, lives: Li, loader: F) -> Result<ReadThrough<K, V, F, S, A, Li, We>, MakeError>
+    >(
+        self,
+        alloc: A,
+        lives: Li,
+        loader: F,
+    ) -> Result<ReadThrough<K, V, F, S, A, Li, We, B>, MakeError>
         ensures shards { IfOk result (λ made. IsShardCount (settings_of self.options).shards
             (settings_of self.options).estimated_items_capacity made.shards) }
         ensures lives { IfOk result (λ made. made.lives ≡ lives) }
@@ -34,10 +38,11 @@ impl<We: Clone + Drop> Maker<We, DefaultHashBuilder, Unnamed> {
         ensures error { IfErr result (IsMakeError self.options) }
     {
         match self.options.build() {
-            Ok(options) => match ReadThrough::with_options(
+            Ok(options) => match ReadThrough::with_builder(
                 alloc,
                 options,
                 self.weigher,
+                self.builder,
                 lives,
                 loader,
             ) {

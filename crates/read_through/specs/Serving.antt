@@ -1,7 +1,6 @@
 -- What is stored and served under a read lock, beside other threads.
 use Rattle.std.specs.Prelude.{◌≡◌, ℕ, Bool, Some, Ok}
 use Rattle.quick_cache_model.specs.declared.terms.lifecycle.Lifecycle as lifecycle
-use Rattle.quick_cache_model.specs.declared.keys.hash_builder.DefaultHashBuilder.{DefaultHashBuilder}
 use Rattle.quick_cache_model.specs.CacheState.{CacheState}
 use Rattle.quick_cache_shard.specs.Shard.{Shard}
 use Rattle.quick_cache_locked.specs.Locked.{FromSome}
@@ -28,10 +27,10 @@ module _ {K V : Type 0} (stands_for : K → Bool) (is_clone : V → V → Type 0
     pub is : value ≡ found.value
 
 -- some shard showed so
-abbrev pub ServesYoung : {K V S R : Type 0} (We : Type 0) → lifecycle.Ghosts (Fresh S) K (Loaded V) R
+abbrev pub ServesYoung : {K V S R : Type 0} (We B : Type 0) → lifecycle.Ghosts (Fresh S) K (Loaded V) R
     → (K → K → Bool) → (is_clone : V → V → Type 0) → (asked : K) → (life_of : V → ℕ → ℕ)
     → (refresh_after now : ℕ) → V → Type 0
-ServesYoung {K} {V} {S} We life equal is_clone asked life_of refresh_after now value =
+ServesYoung {K} {V} {S} We B life equal is_clone asked life_of refresh_after now value =
     FromSome life equal
-    (λ (shard : Shard K (Loaded V) (ByValue We) DefaultHashBuilder (Fresh S)).
+    (λ (shard : Shard K (Loaded V) (ByValue We) B (Fresh S)).
     ShowsYoung (equal asked) is_clone life_of refresh_after now shard.state value)

@@ -19,7 +19,7 @@ use quick_cache_guard::{EntryResult, GuardResult, LoadingShard, PlaceholderGuard
 use quick_cache_model::{Lifecycle, Refusal, Weighter};
 use quick_cache_shard::EntryAction;
 use std::alloc::Allocator;
-use std::hash::Hash;
+use std::hash::{BuildHasher, Hash};
 use std::sync::Wait;
 use std::sync::atomic::Ordering;
 use std::time::{Clock, Duration};
@@ -32,7 +32,8 @@ impl<
     A: Allocator + Clone,
     Li: Lives<K, V>,
     We: Weighter<K, V>,
-> ReadThrough<K, V, F, S, A, Li, We> {
+    B: BuildHasher,
+> ReadThrough<K, V, F, S, A, Li, We, B> {
     /// The value that is stored under the key, where it serves and its loader was asked no longer ago
     /// than `refresh_after`. It takes the read lock of the key's shard alone.
     #[inline(always)]
@@ -41,7 +42,7 @@ impl<
         ensures fresh { IfSome result
             (Answers S.gives K.eq key.now (Li.life_of self.now.lives key.now) now) }
         // It stood under the key, and its loader was asked no longer ago than that.
-        ensures young { IfSome result (ServesYoung We ⟦<Fresh<S> as Lifecycle<K, Loaded<V>>>⟧
+        ensures young { IfSome result (ServesYoung We B ⟦<Fresh<S> as Lifecycle<K, Loaded<V>>>⟧
             K.eq V.is_clone key.now (Li.life_of self.now.lives key.now) refresh_after now) }
     {
         let Ok(Some(found)) = self.cache.find(rt, key) else {
@@ -209,7 +210,7 @@ impl<
         V,
         K,
         Loaded<V>,
-        PlaceholderGuard<'a, K, Loaded<V>, Fresh<S>, ShardOf<K, V, S, A, We>, R, A>,
+        PlaceholderGuard<'a, K, Loaded<V>, Fresh<S>, ShardOf<K, V, S, A, We, B>, R, A>,
     >
         requires keys { (copy : K) → K.is_clone key.now copy → IsTrue (K.eq key.now copy) }
         requires clones { GivesClones S.gives V.is_clone }

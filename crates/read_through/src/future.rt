@@ -16,9 +16,9 @@ use futures::task::{Context, Poll};
 use quick_cache_expiring::Loaded;
 use quick_cache_guard::tasks::ValueOrGuard;
 use quick_cache_guard::{EntryResult, PlaceholderGuard, Stage};
-use quick_cache_model::{Refusal, Weighter};
+use quick_cache_model::{DefaultHashBuilder, Refusal, Weighter};
 use std::alloc::Allocator;
-use std::hash::Hash;
+use std::hash::{BuildHasher, Hash};
 use std::marker::Model;
 use std::mem::replace;
 use std::sync::Wait;
@@ -42,12 +42,13 @@ pub struct GetFuture<
     Li,
     We: Weighter<K, V>,
     R: Wait,
+    B: BuildHasher = DefaultHashBuilder,
 > {
     rt: &'a R,
-    reading: &'a ReadThrough<K, V, F, S, A, Li, We>,
+    reading: &'a ReadThrough<K, V, F, S, A, Li, We, B>,
     key: &'a K,
     now: u64,
-    stage: Stage<ValueOrGuard<'a, 'a, K, K, Loaded<V>, Fresh<S>, ShardOf<K, V, S, A, We>, R, A>>,
+    stage: Stage<ValueOrGuard<'a, 'a, K, K, Loaded<V>, Fresh<S>, ShardOf<K, V, S, A, We, B>, R, A>>,
 }
 
 impl<
@@ -60,7 +61,8 @@ impl<
     Li,
     We: Weighter<K, V>,
     R: Wait,
-> Model for GetFuture<'a, K, V, F, S, A, Li, We, R> {
+    B: BuildHasher,
+> Model for GetFuture<'a, K, V, F, S, A, Li, We, R, B> {
     ghost use Rattle.std.specs.Prelude.{◌≡◌, IsTrue, false};
     ghost use Rattle.quick_cache_guard.specs.Futures.{IfWaits, has_answered, source_of};
     ghost use Rattle.read_through.specs.Answers.{GivesClones};
@@ -93,11 +95,12 @@ impl<
     Li: Lives<K, V>,
     We: Weighter<K, V>,
     R: Wait + Clock,
-> GetFuture<'a, K, V, F, S, A, Li, We, R> {
+    B: BuildHasher,
+> GetFuture<'a, K, V, F, S, A, Li, We, R, B> {
     /// A future that has not begun. It takes no lock.
     pub(crate) fn new(
         rt: &'a R,
-        reading: &'a ReadThrough<K, V, F, S, A, Li, We>,
+        reading: &'a ReadThrough<K, V, F, S, A, Li, We, B>,
         key: &'a K,
         now: u64,
     ) -> Self
@@ -224,7 +227,7 @@ impl<
     fn load(
         &self,
         guard: &mut Option<
-            PlaceholderGuard<'a, K, Loaded<V>, Fresh<S>, ShardOf<K, V, S, A, We>, R, A>,
+            PlaceholderGuard<'a, K, Loaded<V>, Fresh<S>, ShardOf<K, V, S, A, We, B>, R, A>,
         >,
     ) -> V
         requires same { IfSome guard.old (λ guard. IsTrue (K.eq self.now.key guard)) }
@@ -251,7 +254,8 @@ impl<
     Li: Lives<K, V>,
     We: Weighter<K, V>,
     R: Wait + Clock,
-> Future for GetFuture<'a, K, V, F, S, A, Li, We, R> {
+    B: BuildHasher,
+> Future for GetFuture<'a, K, V, F, S, A, Li, We, R, B> {
     type Output = Result<V, Refusal>;
 
     // The loader may be called, and what it gives is the source's.

@@ -12,7 +12,7 @@ use crate::reading::ReadThrough;
 use quick_cache_model::{Refusal, Weighter};
 use std::alloc::Allocator;
 use std::convert::Infallible;
-use std::hash::Hash;
+use std::hash::{BuildHasher, Hash};
 use std::sync::Wait;
 use std::time::Clock;
 
@@ -24,7 +24,8 @@ impl<
     A: Allocator + Clone,
     Li: Lives<K, V>,
     We: Weighter<K, V>,
-> ReadThrough<K, V, F, S, A, Li, We> {
+    B: BuildHasher,
+> ReadThrough<K, V, F, S, A, Li, We, B> {
     /// The value of the key. One that was loaded at a moment m and has a life is answered while
     /// `now` is below the sum of the two. Else the loader is called, at `now` and under no lock, and
     /// what it gives is stored and answered; it is answered also where it could not be stored. Who
@@ -57,7 +58,7 @@ impl<
         rt: &'a R,
         key: &'a K,
         now: u64,
-    ) -> GetFuture<'a, K, V, F, S, A, Li, We, R>
+    ) -> GetFuture<'a, K, V, F, S, A, Li, We, R, B>
     where
         F: Fn(&K, u64) -> V,
         requires keys { (copy : K) → K.is_clone key.now copy → IsTrue (K.eq key.now copy) }

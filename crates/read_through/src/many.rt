@@ -11,7 +11,7 @@ use crate::reading::ReadThrough;
 use quick_cache_expiring::Loaded;
 use quick_cache_model::{Refusal, Weighter};
 use std::alloc::{Allocator, Global};
-use std::hash::Hash;
+use std::hash::{BuildHasher, Hash};
 use std::sync::Wait;
 use std::sync::atomic::Ordering;
 
@@ -23,7 +23,8 @@ impl<
     A: Allocator + Clone,
     Li: Lives<K, V>,
     We: Weighter<K, V>,
-> ReadThrough<K, V, F, S, A, Li, We> {
+    B: BuildHasher,
+> ReadThrough<K, V, F, S, A, Li, We, B> {
     /// The values of these keys, in their order. What is stored and serves is answered, and clones of
     /// the other keys are given to `load_all`, in their order: one that stands twice among them comes
     /// twice. It is called once, at no key not at all, and under no lock. What it gives, a value for

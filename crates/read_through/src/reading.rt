@@ -15,20 +15,13 @@ use quick_cache_options::options::Options;
 use quick_cache_stats::Stats;
 use quick_cache_sync::Cache;
 use std::alloc::{Allocator, Global};
-use std::hash::Hash;
+use std::hash::{BuildHasher, Hash};
 use std::marker::Model;
 use std::sync::Wait;
 use std::sync::atomic::{AtomicU64, Ordering};
 
 /// A shard of that cache, as its lock keeps it.
-pub(crate) type ShardOf<K, V, S, A, We> = LockedShard<
-    K,
-    Loaded<V>,
-    ByValue<We>,
-    DefaultHashBuilder,
-    Fresh<S>,
-    A,
->;
+pub(crate) type ShardOf<K, V, S, A, We, B> = LockedShard<K, Loaded<V>, ByValue<We>, B, Fresh<S>, A>;
 
 /// A loader, `F: Fn(&K, u64) -> V`, and the cache of what it gave, which threads share by reference.
 /// `S` says for contracts what the loader gives, and `Li` how long that lives.
@@ -42,8 +35,9 @@ pub struct ReadThrough<
     A: Allocator = Global,
     Li = u64,
     We = UnitWeighter,
+    B: BuildHasher = DefaultHashBuilder,
 > {
-    pub(crate) cache: Cache<K, Loaded<V>, ByValue<We>, DefaultHashBuilder, Fresh<S>, A>,
+    pub(crate) cache: Cache<K, Loaded<V>, ByValue<We>, B, Fresh<S>, A>,
     pub(crate) lives: Li,
     pub(crate) grace: u64,
     pub(crate) retry_after: u64,
@@ -66,7 +60,8 @@ impl<
     A: Allocator + Drop,
     Li: Drop,
     We: Drop,
-> Drop for ReadThrough<K, V, F, S, A, Li, We> {
+    B: BuildHasher + Drop,
+> Drop for ReadThrough<K, V, F, S, A, Li, We, B> {
     fn drop(self) {
         let ReadThrough {
             cache: _cache,
@@ -82,8 +77,8 @@ impl<
     }
 }
 
-impl<K: Eq + Hash + Drop, V: Drop, F, S: Source<K, V>, A: Allocator, Li, We> Model
-    for ReadThrough<K, V, F, S, A, Li, We> {
+impl<K: Eq + Hash + Drop, V: Drop, F, S: Source<K, V>, A: Allocator, Li, We, B: BuildHasher> Model
+    for ReadThrough<K, V, F, S, A, Li, We, B> {
     ghost use Rattle.read_through.specs.Reading.{Reading};
 
     ghost Value = { Reading Li F };
@@ -207,22 +202,67 @@ impl<K: Eq + Hash + Drop, V: Drop, F, S: Source<K, V>, A: Allocator, Li, We> Rea
         ensures loader { IfOk result (λ made. made.loader ≡ loader) }
         ensures refused { IfErr result (λ refusal. refusal ≡ Refusal.Memory) }
     {
+        ReadThrough::with_builder(
+            alloc,
+            options,
+            weigher,
+            DefaultHashBuilder::new(),
+            lives,
+            loader,
+        )
+    }
+}
+
+impl<
+    K: Eq + Hash + Drop,
+    V: Drop,
+    F,
+    S: Source<K, V>,
+    A: Allocator,
+    Li,
+    We,
+    B: BuildHasher,
+> ReadThrough<K, V, F, S, A, Li, We, B> {
+    /// As `with_options`, with the builder by which keys are hashed.
+    ///
+    /// # Errors
+    ///
+    /// `Memory` where the list of the cache's shards was refused, or a clone of the allocator, the
+    /// weigher or the builder.
+    pub fn with_builder(
+        alloc: A,
+        options: Options,
+        weigher: We,
+        builder: B,
+        lives: Li,
+        loader: F,
+    ) -> Result<Self, Refusal>
+    where
+        A: Clone,
+        F: Drop,
+        Li: Drop,
+        We: Clone + Drop,
+        B: Clone + Drop,
+        ensures shards { IfOk result (λ made. IsShardCount options.shards
+            options.estimated_items_capacity made.shards) }
+        ensures lives { IfOk result (λ made. made.lives ≡ lives) }
+        ensures grace { IfOk result (λ made. made.grace ≡ 0) }
+        ensures retry { IfOk result (λ made. made.retry_after ≡ 0) }
+        ensures loader { IfOk result (λ made. made.loader ≡ loader) }
+        ensures refused { IfErr result (λ refusal. refusal ≡ Refusal.Memory) }
+    {
         let cache = Cache::with_options(
             alloc,
             options,
             ByValue { weigher },
-            DefaultHashBuilder::new(),
+            builder,
             Fresh::new(),
         )?;
         Ok(ReadThrough::over(cache, lives, loader))
     }
 
     /// A loader with this cache, which is empty, and no grace.
-    fn over(
-        cache: Cache<K, Loaded<V>, ByValue<We>, DefaultHashBuilder, Fresh<S>, A>,
-        lives: Li,
-        loader: F,
-    ) -> Self
+    fn over(cache: Cache<K, Loaded<V>, ByValue<We>, B, Fresh<S>, A>, lives: Li, loader: F) -> Self
         ensures shards { result.shards ≡ cache.shards }
         ensures lives { result.lives ≡ lives }
         ensures grace { result.grace ≡ 0 }
@@ -320,7 +360,7 @@ impl<K: Eq + Hash + Drop, V: Drop, F, S: Source<K, V>, A: Allocator, Li, We> Rea
 
     /// How many values are stored, fresh or not.
     pub fn len<R: Wait>(&self, rt: &R) -> usize
-        ensures answers { Counted We ⟦<Fresh<S> as Lifecycle<K, Loaded<V>>>⟧ K.eq Count.Items
+        ensures answers { Counted We B ⟦<Fresh<S> as Lifecycle<K, Loaded<V>>>⟧ K.eq Count.Items
             self.now.shards result }
     {
         self.cache.len(rt)
@@ -330,17 +370,17 @@ impl<K: Eq + Hash + Drop, V: Drop, F, S: Source<K, V>, A: Allocator, Li, We> Rea
     /// that found a value that was being loaded counts as a hit. It takes the read lock of each shard
     /// in turn, once for each number, and looks at each slot.
     pub fn stats<R: Wait>(&self, rt: &R) -> Stats
-        ensures entries { Counted We ⟦<Fresh<S> as Lifecycle<K, Loaded<V>>>⟧ K.eq Count.Items
+        ensures entries { Counted We B ⟦<Fresh<S> as Lifecycle<K, Loaded<V>>>⟧ K.eq Count.Items
             self.now.shards result.entries }
-        ensures weight { Counted We ⟦<Fresh<S> as Lifecycle<K, Loaded<V>>>⟧ K.eq Count.Weight
+        ensures weight { Counted We B ⟦<Fresh<S> as Lifecycle<K, Loaded<V>>>⟧ K.eq Count.Weight
             self.now.shards result.weight }
-        ensures capacity { Counted We ⟦<Fresh<S> as Lifecycle<K, Loaded<V>>>⟧ K.eq Count.Capacity
+        ensures capacity { Counted We B ⟦<Fresh<S> as Lifecycle<K, Loaded<V>>>⟧ K.eq Count.Capacity
             self.now.shards result.capacity }
         // Its misses are those of the cache behind it and what was too old; it tells no more hits.
-        ensures misses { (counted : ℕ) × Counted We ⟦<Fresh<S> as Lifecycle<K, Loaded<V>>>⟧ K.eq
+        ensures misses { (counted : ℕ) × Counted We B ⟦<Fresh<S> as Lifecycle<K, Loaded<V>>>⟧ K.eq
             Count.Misses self.now.shards counted
             × (result.misses ≡ min (counted + result.expired) (2 ^ 64 - 1)) }
-        ensures hits { (counted : ℕ) × Counted We ⟦<Fresh<S> as Lifecycle<K, Loaded<V>>>⟧ K.eq
+        ensures hits { (counted : ℕ) × Counted We B ⟦<Fresh<S> as Lifecycle<K, Loaded<V>>>⟧ K.eq
             Count.Hits self.now.shards counted × (result.hits ≤ counted) }
         ensures failed { result.failed_loads ≤ result.loads }
     {

@@ -4,9 +4,10 @@ use quick_cache_expiring_sync::SharedExpiring;
 use quick_cache_listeners::ByLength;
 use quick_cache_maker::{MakeError, Maker};
 use quick_cache_sync::Cache as SharedCache;
-use quick_cache_unsync::{Cache, DefaultHashBuilder, DefaultLifecycle};
-use read_through::ReadThrough;
+use quick_cache_unsync::{Cache, DefaultHashBuilder, DefaultLifecycle, UnitWeighter};
+use read_through::{AnySource, ReadThrough};
 use std::alloc::Global;
+use std::hash::RandomState;
 use std::io;
 use test_tools::{expect, expect_eq, expect_ok};
 
@@ -40,13 +41,16 @@ fn caches_are_made_by_names(rt: HostRuntime) {
     let shared: SharedExpiring<u64, u64> = expect_ok!(rt; named.make_shared_expiring(rt.alloc()));
     expect_eq!(rt; shared.put(&rt, 1, 10, 0, 60), Ok(()));
     expect_eq!(rt; [shared.get(&rt, &1, 59), shared.get(&rt, &1, 60)], [Ok(Some(10)), Ok(None)]);
-    // A loader with its cache.
-    let named = Maker::new().items(100).weight(100);
-    let squares: ReadThrough<u64, u64, _> = expect_ok!(rt; named.make_read_through(
+    // A loader with its cache, which strangers may ask.
+    let random = expect_ok!(rt; RandomState::new(&rt));
+    let named = Maker::new().items(100).weight(100).builder(random);
+    let squares = expect_ok!(rt; named.make_read_through(
         rt.alloc(),
         60,
         |key: &u64, _now: u64| key.wrapping_mul(*key),
     ));
+    let squares: ReadThrough<u64, u64, _, AnySource, Global, u64, UnitWeighter, RandomState> =
+        squares;
     expect_eq!(rt; squares.get(&rt, &12, 0), Ok(144));
     // What has to be named and is not is a fault of the options.
     let faulty: Result<Cache<u64, u64>, _> = Maker::new().items(100).make_unsync(rt.alloc());

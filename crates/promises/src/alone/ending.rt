@@ -1,13 +1,14 @@
-//! What those rely on who bound or purge a cache for one thread whose entries end, or claim a load.
-ghost use Rattle.std.specs.Prelude.{◌≡◌, ℕ, true, false};
+//! What those rely on who bound, fill or purge a cache for one thread whose entries end, or claim a load.
+ghost use Rattle.std.specs.Prelude.{◌≡◌, ℕ, IfNone, IfOk, IfSome, OnErr, Ok, true, false};
 ghost use Rattle.std.specs.List.{Contains};
 ghost use Rattle.quick_cache_model.specs.CacheState.{Item};
+ghost use Rattle.quick_cache_model.specs.Finding.{HasNoItem};
 ghost use Rattle.quick_cache_model.specs.Fitting.{AllFit};
 ghost use Rattle.quick_cache_shard.specs.Shard.{residents};
 ghost use Rattle.quick_cache_expiring.specs.declared.lasting.Lasting.{Lasting};
 ghost use Rattle.quick_cache_expiring.specs.Lives.{lives};
 
-use quick_cache_expiring::{Expiring, Loaded};
+use quick_cache_expiring::{Expiring, Lasting, LoadError, Loaded, Refusal};
 
 /// The capacity is the one that was set last, and no more is told to be over.
 pub fn set_and_tell(entries: &mut Expiring<u64, u64>, capacity: u64) -> u64
@@ -16,6 +17,35 @@ pub fn set_and_tell(entries: &mut Expiring<u64, u64>, capacity: u64) -> u64
 {
     entries.set_capacity(capacity);
     entries.stats().capacity
+}
+
+/// A refused put leaves the state as it was.
+pub fn put_or_leave(
+    entries: &mut Expiring<u64, u64>,
+    key: u64,
+    value: u64,
+    now: u64,
+    life: u64,
+) -> Result<(), Refusal>
+    ensures { OnErr result (entries.new.cache.state ≡ entries.old.cache.state) }
+{
+    entries.put(key, value, now, life)
+}
+
+/// Of a key that is absent a load answers what the loader gave, and tells of none that was over.
+pub fn load_absent<E, F: FnOnce() -> Result<u64, E>>(
+    entries: &mut Expiring<u64, u64>,
+    key: &u64,
+    now: u64,
+    life: u64,
+    loader: F,
+) -> Result<u64, LoadError<E>>
+    requires loader { F.pre loader }
+    requires absent { HasNoItem (⟦<u64 as PartialEq>⟧.eq key.now) entries.old.cache.state }
+    ensures gave { IfOk result (λ value. F.post loader (Ok value)) }
+    ensures none { entries.new.expired ≡ entries.old.expired }
+{
+    entries.get_or_load(key, now, life, loader)
 }
 
 /// A purge of none takes none.
@@ -39,6 +69,14 @@ pub fn purge_and_keep(entries: &mut Expiring<u64, u64>, now: u64, at_most: usize
         → lives item.value.until now ≡ true → Contains (residents entries.new.cache.state) item }
 {
     entries.purge_some(now, at_most);
+}
+
+/// What is given was over. Where none is given, all is as it was.
+pub fn take_one_over(entries: &mut Expiring<u64, u64>, now: u64) -> Option<(u64, Lasting<u64>)>
+    ensures over { IfSome result (λ pair. lives pair.1.until now ≡ false) }
+    ensures none { IfNone result (entries.new ≡ entries.old) }
+{
+    entries.take_over(now).next()
 }
 
 /// A load is claimed once at a moment.

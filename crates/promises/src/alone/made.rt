@@ -3,6 +3,7 @@ ghost use Rattle.std.specs.Prelude.{◌≡◌, IfOk, IsOk};
 ghost use Rattle.std.specs.Int.{IsPowerOfTwo};
 
 use quick_cache_expiring::Expiring;
+use quick_cache_expiring_sync::SharedExpiring;
 use quick_cache_listeners::ByLength;
 use quick_cache_maker::{MakeError, Maker};
 use quick_cache_sync::Cache as SharedCache;
@@ -41,6 +42,20 @@ pub fn make_ending(alloc: Global, weight: u64) -> Result<Expiring<u64, u64>, Mak
     ensures none { IfOk result (λ made. made.expired ≡ 0) }
 {
     Maker::new().items(100).weight(weight).make_expiring(alloc)
+}
+
+/// So has one that threads share, whose entries end.
+pub fn make_shared_ending(
+    alloc: Global,
+    shards: usize,
+) -> Result<SharedExpiring<u64, u64>, MakeError>
+    ensures { IfOk result (λ made. IsPowerOfTwo made.shards) }
+{
+    Maker::new()
+        .items(1000)
+        .weight(1000)
+        .shards(shards)
+        .make_shared_expiring(alloc)
 }
 
 /// A loader's values live for as long as was named, and none is answered for longer.

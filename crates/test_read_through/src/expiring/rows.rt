@@ -186,3 +186,21 @@ fn a_load_gives_its_value(rt: HostRuntime) {
     };
     expect_eq!(rt; entries.stats(), stats);
 }
+
+#[test]
+fn what_is_over_is_taken_and_given(rt: HostRuntime) {
+    let mut entries: Expiring<u64, u64> = expect_ok!(rt; Expiring::new(rt.alloc(), 8));
+    for key in 0..6 {
+        expect_eq!(rt; entries.put(key, key, 0, key), Ok(()));
+    }
+    // One step takes one entry: at 3 four are over.
+    let first = entries.take_over(3).next().map(|pair| pair.0);
+    expect_eq!(rt; (first, entries.len()), (Some(0), 5));
+    let mut keys: u64 = 0;
+    for (key, lasting) in entries.take_over(3) {
+        keys = keys
+            .wrapping_mul(100)
+            .wrapping_add(key.wrapping_add(lasting.until));
+    }
+    expect_eq!(rt; (keys, entries.len(), entries.stats().expired), (20406, 2, 0));
+}

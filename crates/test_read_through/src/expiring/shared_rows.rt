@@ -115,6 +115,35 @@ fn what_is_over_gives_its_place_to_a_load(rt: HostRuntime) {
 }
 
 #[test]
+fn what_serves_of_many_is_shown(rt: HostRuntime) {
+    let entries: SharedExpiring<u64, u64> = expect_ok!(rt; SharedExpiring::new(rt.alloc(), 1000));
+    for key in 0..4 {
+        expect_eq!(rt; entries.put(&rt, key, key, key, 10), Ok(()));
+    }
+    // At 12 the first three are over.
+    let seen = entries.get_many(&rt, rt.alloc(), &[3, 9, 0, 3], 12);
+    let seen = expect_ok!(rt; seen);
+    expect_eq!(rt; seen.as_slice(), &[Some(3), None, None, Some(3)]);
+    // It has taken the one that is over out, and a look that does not wait leaves it.
+    let tried = [
+        entries.try_get(&1, 12),
+        entries.try_get(&3, 12),
+        entries.try_peek(&2, 12),
+        entries.try_peek(&3, 12),
+        entries.try_get(&9, 12),
+    ];
+    expect_eq!(rt; tried, [Ok(None), Ok(Some(3)), Ok(None), Ok(Some(3)), Ok(None)]);
+    let stats = Stats {
+        entries: 3,
+        hits: 3,
+        misses: 4,
+        expired: 2,
+        ..entries.cache().stats(&rt)
+    };
+    expect_eq!(rt; entries.stats(&rt), stats);
+}
+
+#[test]
 fn a_shared_capacity_counts_what_is_over(rt: HostRuntime) {
     let options = expect_ok!(rt; OptionsBuilder::new()
         .estimated_items_capacity(4)

@@ -1,0 +1,15 @@
+use Rattle.std.proofs.Common.{sym, subst}
+use Rattle.quick_cache_expiring_sync.specs.Looks.{FitsAt}
+use Rattle.quick_cache_expiring_sync.proofs.TellLemmas.{FitsAt-told}
+use Rattle.quick_cache_expiring_sync.proofs.shared.SharedExpiring.look_anew.Goals as goal
+
+-- the look told a clone of what lives
+pub returns-in-Retained-Ok-clause-told : goal.returns-in-Retained-Ok-clause-told
+returns-in-Retained-Ok-clause-told g c =
+    let told = c.in-Retained-Ok.ensures.told in
+    subst
+    (FitsAt g.L.Lifecycle.fits (g.Q.Equivalent.equivalent c.args.query.now) c.args.now)
+    (sym c.in-Retained-Ok.value-is)
+    (FitsAt-told _ g.L.Lifecycle.fits (g.Q.Equivalent.equivalent c.args.query.now) _
+    c.args.now g.V.Clone.is_clone c.requires.clones _ told c.in-Retained-Ok.value
+    told.called.called.1 c.in-Retained-Ok.field-0-is)
