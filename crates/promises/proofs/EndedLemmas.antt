@@ -66,7 +66,8 @@ module _ {K V We B L : Type 0} (stands_for : K → Bool) (now : ℕ) (old : Entr
       → FetchesAt goes is_default stands_for gives hash_by now until given old is_clone
       is_infallible answer new
       → IfOk answer (λ value. given (Ok value)) × (new.expired ≡ old.expired)
-  FetchesAt-absent goes is_default gives hash_by until given is_clone is_infallible answer new fetches =
+  FetchesAt-absent {S} {E} goes is_default gives hash_by until given is_clone is_infallible answer new
+      fetches =
       let mid = none-expires fetches.over fetches.mid fetches.expires in (
         subst (λ (a : Result V (LoadError E)). IfOk a (λ value. given (Ok value)))
             (sym fetches.values)

@@ -1,12 +1,20 @@
 -- What looks with a test show, and leave.
 use Rattle.std.proofs.Common.{◌≡◌, ◌≤◌, ℕ, Bool, true, false, Option, Some, None, IsSome, Result, Ok, Err, IfOk, OnErr, refl, subst, sym, ◌∙◌}
+use Rattle.std.specs.Result.{result_map_both}
+use denote.Ref.{Bor}
 use Rattle.quick_cache_model.specs.CacheState.{CacheState, SameButOrder, keys_by}
 use Rattle.quick_cache_model.specs.Lookups.{LooksUp, Sees, after_miss}
 use Rattle.quick_cache_model.proofs.LookupLaws.{not_both}
 use Rattle.quick_cache_model.proofs.OrderLaws.{SameButOrder-refl}
 use Rattle.quick_cache_shard.specs.Predicates.{RemovesAsked}
 use Rattle.quick_cache_shard.specs.Shard.{Shard}
-use Rattle.quick_cache_shard.specs.Tests.{GetsOrDrops, GetsOrTakes, LooksUpIf, Miss, miss_of}
+use Rattle.quick_cache_shard.specs.Tests.{GetsOrDrops, GetsOrTakes, LooksUpIf, Miss, miss_of, ok_copied}
+
+-- what is copied is what is shown
+pub copied-ok : {V E : Type 0} (found : Result (Bor V) E)
+    → result_map_both (λ (shown : Bor V). shown.now) (λ (other : E). other) found ≡ ok_copied found
+copied-ok (Ok shown) = refl
+copied-ok (Err other) = refl
 
 module _ {K V : Type 0} (test : K → Bool) (answers : V → Bool → Type 0) (old : CacheState K V) where
   -- a value that is given passed the test
