@@ -24,3 +24,4 @@ pub use numbers::still::still;
 pub use reply::Answer;
 pub use serving::help::HELP;
 pub use serving::serve;
+pub use serving::session::{Outcome, Session};

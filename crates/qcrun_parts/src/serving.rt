@@ -8,7 +8,7 @@ ghost use Rattle.qcrun_parts.specs.Runs.{PrintsLine, ServesKnown, ServesLine, ba
 pub mod help;
 mod options;
 mod print;
-mod session;
+pub mod session;
 
 use crate::command::command_of;
 use crate::fault::{Fault, fault_of};

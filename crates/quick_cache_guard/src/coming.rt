@@ -9,6 +9,7 @@ ghost use Rattle.quick_cache_guard.specs.Answers.{CameTo, HasCause, IsAnswered, 
 ghost use Rattle.quick_cache_loading.specs.Turns.{IsLater, none_left};
 
 use crate::guard::PlaceholderGuard;
+use crate::meeting::Met;
 use crate::results::GuardResult;
 use quick_cache_loading::sharing::{Begun, LoadingShard, Placeholder, Turns};
 use quick_cache_loading::waiting::{Place, Waited, Wants};
@@ -101,16 +102,17 @@ pub fn come<
         Err(refusal) => return Err(Some(GuardResult::Refused(refusal))),
     };
     let mut locked = shard.write(rt);
-    let shared = match locked.begin_load(query) {
+    let met = match Met::begin(&mut *locked, query) {
         Ok(Begun::Found(value)) => return Err(Some(GuardResult::Value(value))),
-        Ok(Begun::Loading(shared)) => shared,
+        Ok(Begun::Loading(met)) => met,
         Err(refusal) => return Err(Some(GuardResult::Refused(refusal))),
     };
-    let Some(placeholder) = shared.placeholder() else {
-        return Err(Some(GuardResult::Refused(Refusal::Memory)));
-    };
-    let entered = placeholder.enter(rt, &mut *locked, query, Wants::Value, is_over);
+    let joined = met.join(rt, query, Wants::Value, is_over);
     drop(locked);
+    let (placeholder, entered) = match joined {
+        Ok(joined) => joined,
+        Err(refusal) => return Err(Some(GuardResult::Refused(refusal))),
+    };
     match entered {
         Ok(place) => Ok(Waiting {
             placeholder,

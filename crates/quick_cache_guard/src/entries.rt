@@ -2,7 +2,6 @@
 //! chooses what becomes of it.
 
 mod acting;
-mod entering;
 mod shard;
 
 pub use acting::{come, entry};

@@ -8,6 +8,7 @@ mod future;
 mod guard;
 mod joining;
 pub mod loads;
+mod meeting;
 mod results;
 mod stage;
 pub mod tasks;

@@ -14,7 +14,7 @@ mod reading;
 
 pub use future::GetFuture;
 pub use given::{AnySource, Given, Source};
-pub use lives::{ByAnswer, Lasting, Lives};
+pub use lives::{ByAnswer, Lives, WithLife};
 pub use quick_cache_expiring::{ByValue, Loaded};
 pub use quick_cache_model::{Refusal, UnitWeighter, Weighter};
 pub use quick_cache_options::options::{Error, Options, OptionsBuilder};

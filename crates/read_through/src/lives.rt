@@ -31,18 +31,18 @@ impl<K, V: Clone> Lives<K, V> for u64 {
 
 /// A value with a life of its own.
 #[derive(Debug, PartialEq, Drop)]
-pub struct Lasting<V> {
+pub struct WithLife<V> {
     pub value: V,
     pub life: u64,
 }
 
-impl<V: Clone> Clone for Lasting<V> {
+impl<V: Clone> Clone for WithLife<V> {
     ghost is_clone = { λ old new. V.is_clone old.value new.value × (new.life ≡ old.life) };
 
-    ghost is_infallible = { λ lasting. V.is_infallible lasting.value };
+    ghost is_infallible = { λ given. V.is_infallible given.value };
 
     fn clone(&self) -> Result<Self, AllocError> {
-        Ok(Lasting {
+        Ok(WithLife {
             value: self.value.clone()?,
             life: self.life,
         })
@@ -53,12 +53,12 @@ impl<V: Clone> Clone for Lasting<V> {
 #[derive(Debug, Drop)]
 pub struct ByAnswer;
 
-impl<K, V: Clone> Lives<K, Lasting<V>> for ByAnswer {
-    ghost life_of = { λ _ _ lasting _. lasting.life };
+impl<K, V: Clone> Lives<K, WithLife<V>> for ByAnswer {
+    ghost life_of = { λ _ _ given _. given.life };
 
     ghost keeps_life = { λ _ _ _ _ _ cloned. cloned.1 };
 
-    fn life(&self, _key: &K, lasting: &Lasting<V>, _moment: u64) -> u64 {
-        lasting.life
+    fn life(&self, _key: &K, given: &WithLife<V>, _moment: u64) -> u64 {
+        given.life
     }
 }

@@ -1,9 +1,7 @@
 //! What those rely on who take pairs out of a cache and tell its lifecycle.
-ghost use Rattle.std.specs.Prelude.{◌≡◌, ◌<◌, ◌≤◌, ◌⊎◌, ◌==◌, ◌∷◌, [], ℕ, Some, IfSome, IfNone, length, ◌+◌, ◌^◌};
-ghost use Rattle.std.specs.List.{Contains};
-ghost use Rattle.quick_cache_model.specs.CacheState.{Item};
-ghost use Rattle.quick_cache_model.specs.Finding.{HasNoItem};
-ghost use Rattle.quick_cache_shard.specs.Shard.{residents};
+ghost use Rattle.std.specs.Prelude.{◌≡◌, ◌<◌, ◌⊎◌, ◌∷◌, [], Some, IfSome, IfNone, length, ◌+◌, ◌^◌};
+ghost use Rattle.std.specs.List.Sorted.{IsPermutation};
+ghost use Rattle.quick_cache_shard.specs.ShardDrain.{pairs_in};
 ghost use Rattle.quick_cache_listeners.specs.declared.causes.cause.Cause.{Cause};
 
 use crate::alone::listened::{LastCause, Odd};
@@ -92,16 +90,14 @@ pub fn hear_of_none(heard: &mut Request<Option<Cause>>)
     OnLeaveWhy(LastCause).tell_each_taken(heard, none.into_iter(), Cause::Removed);
 }
 
-/// What a predicate wants is given and gone, and what it does not want stays. None is given only where
-/// it wants none.
+/// A pair that a predicate wants is given and gone, and no other. Where it wants none nothing changes.
 pub fn take_one_above<We, B: BuildHasher, L>(
     cache: &mut Cache<u64, u64, We, B, L>,
     least: u64,
 ) -> Option<(u64, u64)>
     ensures wanted { IfSome result (λ pair. least < pair.1) }
-    ensures gone { IfSome result (λ pair. HasNoItem (λ key. pair.0 == key) cache.new.state) }
-    ensures stays { (item : Item ℕ ℕ) → Contains (residents cache.old.state) item
-        → item.value ≤ least → Contains (residents cache.new.state) item }
+    ensures gone { IfSome result
+        (λ pair. IsPermutation (pairs_in cache.old) (pair ∷ pairs_in cache.new)) }
     ensures none { IfNone result (cache.new ≡ cache.old) }
 {
     cache.extract_if(|_, value| *value > least).next()

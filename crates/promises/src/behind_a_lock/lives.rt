@@ -4,7 +4,7 @@ ghost use Rattle.read_through.specs.Loads.{LoadsFrom, LoadsOkFrom};
 
 use futures::Future;
 use futures::task::{Context, Poll};
-use read_through::{ByAnswer, Given, Lasting, Loaded, ReadThrough, Refusal, Source};
+use read_through::{ByAnswer, Given, Loaded, ReadThrough, Refusal, Source, WithLife};
 use std::alloc::Global;
 use std::sync::Wait;
 use std::time::Clock;
@@ -19,24 +19,24 @@ pub struct Address {
 /// What a server says: an address of the name, asked for at the moment.
 pub struct Server;
 
-impl Source<u64, Lasting<Address>> for Server {
+impl Source<u64, WithLife<Address>> for Server {
     ghost gives = { λ name moment answer.
         (answer.value.name ≡ name) × (answer.value.asked ≡ moment) };
 }
 
 /// Answers of such a server, each for as long as it says.
-pub type Addresses<F> = ReadThrough<u64, Lasting<Address>, F, Server, Global, ByAnswer>;
+pub type Addresses<F> = ReadThrough<u64, WithLife<Address>, F, Server, Global, ByAnswer>;
 
 /// An answer is of the name, and its life is not over; what has none is of this very moment.
-pub fn get_living<R: Wait + Clock, F: Fn(&u64, u64) -> Lasting<Address>>(
+pub fn get_living<R: Wait + Clock, F: Fn(&u64, u64) -> WithLife<Address>>(
     rt: &R,
     addresses: &Addresses<F>,
     name: u64,
     now: u64,
-) -> Result<Lasting<Address>, Refusal>
+) -> Result<WithLife<Address>, Refusal>
     requires callable { F.IsAlwaysCallable addresses.now.loader }
     requires says { LoadsFrom F.Fn addresses.now.loader
-        ⟦<Server as Source<u64, Lasting<Address>>>⟧.gives }
+        ⟦<Server as Source<u64, WithLife<Address>>>⟧.gives }
     ensures name { IfOk result (λ answer. answer.value.name ≡ name) }
     ensures lives { IfOk result (λ answer. 0 < answer.life
         → now < answer.value.asked + answer.life) }
@@ -46,16 +46,16 @@ pub fn get_living<R: Wait + Clock, F: Fn(&u64, u64) -> Lasting<Address>>(
 }
 
 /// So is one that may be asked for anew.
-pub fn refresh_living<R: Wait + Clock, F: Fn(&u64, u64) -> Lasting<Address>>(
+pub fn refresh_living<R: Wait + Clock, F: Fn(&u64, u64) -> WithLife<Address>>(
     rt: &R,
     addresses: &Addresses<F>,
     name: u64,
     now: u64,
     refresh_after: u64,
-) -> Result<Lasting<Address>, Refusal>
+) -> Result<WithLife<Address>, Refusal>
     requires callable { F.IsAlwaysCallable addresses.now.loader }
     requires says { LoadsFrom F.Fn addresses.now.loader
-        ⟦<Server as Source<u64, Lasting<Address>>>⟧.gives }
+        ⟦<Server as Source<u64, WithLife<Address>>>⟧.gives }
     ensures name { IfOk result (λ answer. answer.value.name ≡ name) }
     ensures lives { IfOk result (λ answer. 0 < answer.life
         → now < answer.value.asked + answer.life) }
@@ -65,16 +65,16 @@ pub fn refresh_living<R: Wait + Clock, F: Fn(&u64, u64) -> Lasting<Address>>(
 }
 
 /// So is one that a task is given, by the first poll or by a later one.
-pub fn poll_living<R: Wait + Clock, F: Fn(&u64, u64) -> Lasting<Address>>(
+pub fn poll_living<R: Wait + Clock, F: Fn(&u64, u64) -> WithLife<Address>>(
     rt: &R,
     addresses: &Addresses<F>,
     name: u64,
     now: u64,
     cx: &mut Context<'_>,
-) -> Option<Lasting<Address>>
+) -> Option<WithLife<Address>>
     requires callable { F.IsAlwaysCallable addresses.now.loader }
     requires says { LoadsFrom F.Fn addresses.now.loader
-        ⟦<Server as Source<u64, Lasting<Address>>>⟧.gives }
+        ⟦<Server as Source<u64, WithLife<Address>>>⟧.gives }
     ensures name { IfSome result (λ answer. answer.value.name ≡ name) }
     ensures lives { IfSome result (λ answer. 0 < answer.life
         → now < answer.value.asked + answer.life) }
@@ -89,16 +89,16 @@ pub fn poll_living<R: Wait + Clock, F: Fn(&u64, u64) -> Lasting<Address>>(
 }
 
 /// Where the server may be away, an old answer is of the name too, and within its life and the grace.
-pub fn refresh_or_keep<R: Wait + Clock, F: Fn(&u64, u64) -> Result<Lasting<Address>, u8>>(
+pub fn refresh_or_keep<R: Wait + Clock, F: Fn(&u64, u64) -> Result<WithLife<Address>, u8>>(
     rt: &R,
     addresses: &Addresses<F>,
     name: u64,
     now: u64,
     refresh_after: u64,
-) -> Option<Lasting<Address>>
+) -> Option<WithLife<Address>>
     requires callable { F.IsAlwaysCallable addresses.now.loader }
     requires says { LoadsOkFrom F.Fn addresses.now.loader
-        ⟦<Server as Source<u64, Lasting<Address>>>⟧.gives }
+        ⟦<Server as Source<u64, WithLife<Address>>>⟧.gives }
     ensures name { IfSome result (λ answer. answer.value.name ≡ name) }
     ensures late { IfSome result (λ answer.
         now ≤ answer.value.asked + answer.life + addresses.now.grace) }
@@ -123,7 +123,7 @@ pub fn put_or_tell_why<R: Wait, F>(
     ensures why { IfErr result (λ refusal. refusal ≡ Refusal.Memory ⊎ refusal ≡ Refusal.SlotsFull) }
 {
     let value = Address { name, asked: now };
-    addresses.put(rt, name, Lasting { value, life }, now)
+    addresses.put(rt, name, WithLife { value, life }, now)
 }
 
 /// What is taken out is of the name, and was asked for at the moment that stands beside it.
@@ -131,7 +131,7 @@ pub fn take_address<R: Wait, F>(
     rt: &R,
     addresses: &Addresses<F>,
     name: u64,
-) -> Option<Loaded<Lasting<Address>>>
+) -> Option<Loaded<WithLife<Address>>>
     ensures name { IfSome result (λ loaded. loaded.value.value.name ≡ name) }
     ensures moment { IfSome result (λ loaded. loaded.value.value.asked ≡ loaded.moment) }
 {

@@ -5,13 +5,13 @@ ghost use Rattle.quick_cache_loading.specs.Fitting.{FitsQuery};
 ghost use Rattle.quick_cache_loading.specs.Turns.{IsLater, none_left};
 ghost use Rattle.quick_cache_guard.specs.Acts.{LeavesFit, LeavesHeld, LeavesOnce, MayAct, MayTell};
 ghost use Rattle.quick_cache_guard.specs.Entries.{AnswersAsChosen, IfAnswered, IfGivenBack, IfGuarded, IfRetained, IfUncalled};
-ghost use Rattle.quick_cache_guard.specs.Entries.{CameSo, HasEntryCause, IsRefusedAsLoad, is_late};
+ghost use Rattle.quick_cache_guard.specs.Entries.{CameSo, HasEntryCause, IsRefusedAsLoad, entry_of, is_late};
 ghost use Rattle.quick_cache_guard.specs.Answers.{CameTo, WasToldOnce};
 
-use crate::coming::wait_at;
-use crate::entries::entering::{entry_of, join_there, share_of_new};
+use crate::coming::{answer, wait_at};
 use crate::entries::shard::EntryShard;
-use crate::{EntryResult, PlaceholderGuard, Waiting};
+use crate::meeting::Met;
+use crate::{EntryResult, GuardResult, PlaceholderGuard, Waiting};
 use quick_cache_loading::sharing::Turns;
 use quick_cache_loading::waiting::Wants;
 use quick_cache_model::{EntryAction, EntryOrPlaceholder, Lifecycle, ToKey};
@@ -143,24 +143,50 @@ pub fn come<
         Err(refusal) => return Err(Some(EntryResult::Refused(refusal))),
     };
     let mut locked = shard.write(rt);
-    match locked.act_on(query, callback) {
-        Ok(EntryOrPlaceholder::Kept(told)) => Err(Some(EntryResult::Retained(told))),
-        Ok(EntryOrPlaceholder::Removed(key, value)) => Err(Some(EntryResult::Removed(key, value))),
-        Ok(EntryOrPlaceholder::Replaced(shared, value)) => {
-            match share_of_new(rt, &mut *locked, &shared, query) {
-                Some((placeholder, share)) => {
-                    let guard = PlaceholderGuard::by_share(rt, shard, placeholder, own, share);
-                    Err(Some(EntryResult::Replaced(guard, value)))
-                }
-                None => Err(Some(EntryResult::Removed(own, value))),
-            }
+    let met = match Met::act(&mut *locked, query, callback) {
+        Ok(EntryOrPlaceholder::Kept(told)) => return Err(Some(EntryResult::Retained(told))),
+        Ok(EntryOrPlaceholder::Removed(key, value)) => {
+            return Err(Some(EntryResult::Removed(key, value)));
         }
-        Ok(EntryOrPlaceholder::ExistingPlaceholder(shared)) => {
-            join_there(rt, shard, locked, shared, query, own, is_over)
+        Ok(EntryOrPlaceholder::Replaced(met, value)) => {
+            let Some((placeholder, share)) = met.share(rt, query) else {
+                return Err(Some(EntryResult::Removed(own, value)));
+            };
+            let guard = PlaceholderGuard::by_share(rt, shard, placeholder, own, share);
+            return Err(Some(EntryResult::Replaced(guard, value)));
         }
-        Ok(EntryOrPlaceholder::NewPlaceholder(shared)) => {
-            join_there(rt, shard, locked, shared, query, own, is_over)
-        }
-        Err(refusal) => Err(Some(EntryResult::Refused(refusal))),
+        Ok(EntryOrPlaceholder::ExistingPlaceholder(met)) => met,
+        Ok(EntryOrPlaceholder::NewPlaceholder(met)) => met,
+        Err(refusal) => return Err(Some(EntryResult::Refused(refusal))),
+    };
+    let joined = met.join(rt, query, Wants::End, is_over);
+    drop(locked);
+    let (placeholder, entered) = match joined {
+        Ok(joined) => joined,
+        Err(refusal) => return Err(Some(EntryResult::Refused(refusal))),
+    };
+    match entered {
+        Ok(place) => Ok(Waiting {
+            placeholder,
+            place,
+            key: own,
+        }),
+        Err(told) => Err(entry_of(answer(rt, shard, placeholder, own, told))),
+    }
+}
+
+/// What an entry call answers, where one who asks for a value answers this. It looks in the shard
+/// again where the value came.
+pub fn entry_of<T: Drop, K: Drop, V: Drop, G: Drop>(
+    told: Option<GuardResult<V, G>>,
+) -> Option<EntryResult<T, K, V, G>>
+    ensures { result ≡ entry_of told }
+{
+    match told {
+        Some(GuardResult::Guard(guard)) => Some(EntryResult::Vacant(guard)),
+        Some(GuardResult::Timeout) => Some(EntryResult::Timeout),
+        Some(GuardResult::Refused(refusal)) => Some(EntryResult::Refused(refusal)),
+        Some(GuardResult::Value(_)) => None,
+        None => None,
     }
 }

@@ -66,6 +66,7 @@ impl<
             result self.new }
         ensures stays { IdlesWithin K.eq 0 self.old self.new }
     {
+        self.facts();
         let token = self.first_wanted(after, wanted)?;
         let (key, value) = self.remove_token(token)?;
         Some((token, key, value))

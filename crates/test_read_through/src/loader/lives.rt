@@ -1,7 +1,7 @@
 //! Answers with lives of their own, old answers that are asked for anew, and those that are answered
 //! while a loader fails.
 use crate::loader::hundreds::hundreds;
-use read_through::{ByAnswer, Given, Lasting, OptionsBuilder, ReadThrough, UnitWeighter};
+use read_through::{ByAnswer, Given, OptionsBuilder, ReadThrough, UnitWeighter, WithLife};
 use std::alloc::Global;
 use std::sync::atomic::{AtomicU64, Ordering};
 use std::sync::{Barrier, Wait};
@@ -21,17 +21,17 @@ const LIVES: [(u64, &[(u64, u64)]); 5] = [
 #[test]
 fn an_answer_lives_as_long_as_it_says(rt: HostRuntime) {
     for (life, gets) in LIVES {
-        let loaded: ReadThrough<u64, Lasting<u64>, _, read_through::AnySource, Global, ByAnswer> =
+        let loaded: ReadThrough<u64, WithLife<u64>, _, read_through::AnySource, Global, ByAnswer> =
             expect_ok!(rt; ReadThrough::new(
                 rt.alloc(),
                 8,
                 ByAnswer,
-                |_key: &u64, now: u64| Lasting { value: now, life },
+                |_key: &u64, now: u64| WithLife { value: now, life },
             ));
         for (now, value) in gets {
             let answer = loaded.get(&rt, &1, *now);
             let value = *value;
-            expect_eq!(rt; (*now, answer), (*now, Ok(Lasting { value, life })));
+            expect_eq!(rt; (*now, answer), (*now, Ok(WithLife { value, life })));
         }
     }
 }

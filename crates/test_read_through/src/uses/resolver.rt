@@ -1,6 +1,6 @@
 //! A resolver: answers live as long as their zone says, and those that there is no such name
 //! shorter. While the server is away the old ones are given.
-use read_through::{AnySource, ByAnswer, Given, Lasting, ReadThrough, Refusal};
+use read_through::{AnySource, ByAnswer, Given, ReadThrough, Refusal, WithLife};
 use std::alloc::Global;
 use std::sync::Wait;
 use std::time::Clock;
@@ -12,7 +12,7 @@ const ZONE: &str = "alpha 10.0.0.1 300\nbeta 10.0.0.2 20";
 const NO_SUCH_NAME: u64 = 5;
 
 /// An address, or that there is none, with its life.
-pub type Answer = Lasting<Option<&'static str>>;
+pub type Answer = WithLife<Option<&'static str>>;
 
 /// The server does not answer.
 #[derive(Debug, Clone, Copy, PartialEq)]
@@ -28,14 +28,14 @@ fn ask(name: &&'static str, second: u64) -> Result<Answer, Away> {
         let (found, address, life) = (words.next(), words.next(), words.next());
         if found == Some(*name) {
             if let Some(Ok(life)) = life.map(|it| it.parse::<u64>()) {
-                return Ok(Lasting {
+                return Ok(WithLife {
                     value: address,
                     life,
                 });
             }
         }
     }
-    Ok(Lasting {
+    Ok(WithLife {
         value: None,
         life: NO_SUCH_NAME,
     })

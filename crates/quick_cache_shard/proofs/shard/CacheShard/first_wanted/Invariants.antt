@@ -8,10 +8,10 @@ use Rattle.quick_cache_shard.proofs.shard.CacheShard.first_wanted.Given as goal
 -- none of the items that were shown was wanted
 abbrev pub invariant-loop-token : goal.invariant-loop-token
 invariant-loop-token g l = record {
-  places : l.walk.places ≡ l.self.now.places;
-  residents : l.walk.residents ≡ residents l.self.now.state;
-  behind : number_or_zero l.after ≤ l.walk.after;
-  passes : PassesTo (Answers g.F.Fn l.wanted.now) (number_or_zero l.after) l.self.now
+  places : l.walk.places ≡ l.self.places;
+  residents : l.walk.residents ≡ residents l.self.state;
+  behind : number_or_zero l.fn.after ≤ l.walk.after;
+  passes : PassesTo (Answers g.F.Fn l.wanted) (number_or_zero l.fn.after) l.self
       (l.walk.after + 1);
 }
 

@@ -1,12 +1,11 @@
-use Rattle.std.proofs.Common.{◌<◌, ◌≤◌, Some, None, refl, ap, sym, subst, inl, arith}
+use Rattle.std.proofs.Common.{◌<◌, ◌≤◌, Some, refl, ap, sym, subst, inl, arith}
 use Rattle.std.specs.Int.NonZero.{non_zero_u32_get as number}
 use Rattle.quick_cache_shard.specs.Predicates.{Answers}
-use Rattle.quick_cache_shard.specs.Shard.{Shard}
 use Rattle.quick_cache_shard.specs.TakesWanted.{TakesNextWanted, WantsNone}
 use Rattle.quick_cache_shard.specs.WalksFrom.{number_or_zero}
 use Rattle.quick_cache_locked.specs.Asked.{MayBeAskedOfFitting}
 use Rattle.quick_cache_sync.specs.Shards.{Division}
-use Rattle.quick_cache_sync.specs.Walks.{ComesTo, WantsNoneUpTo}
+use Rattle.quick_cache_sync.specs.Walks.{ComesTo, Standing, WantsNoneUpTo}
 use Rattle.quick_cache_sync.proofs.WalkLemmas.{ComesTo-next, IsSoUpTo-first, IsSoUpTo-next, tokens_ahead-farther, tokens_ahead-nearer}
 use Rattle.quick_cache_sync.proofs.calls.extracting.ExtractIfIterator.next.Goals as goal
 
@@ -24,13 +23,13 @@ loop-index-init g c = record {
 -- the predicate is as at first
 pub take_next_if-step-requires : goal.take_next_if-step-requires
 take_next_if-step-requires g c = record {
-  callable = subst (λ wanted. MayBeAskedOfFitting g.L.fits g.F.Fn wanted)
-      (sym c.loop-index.invariant.wanted) c.requires.can;
+  callable = subst (λ wanted. MayBeAskedOfFitting g.L.Lifecycle.fits g.F.Fn wanted)
+      (sym c.loop-index.invariant.wanted) c.requires;
 }
 
 pub returns-in-Some-clause-steps : goal.returns-in-Some-clause-steps
 returns-in-Some-clause-steps g c =
-    let old = (c.args.self.now.shard, c.args.self.now.after) in
+    let old : Standing = (c.args.self.now.shard, c.args.self.now.after) in
     let after = number_or_zero c.loop-index.self.after in
     let invariant = c.loop-index.invariant in (
       (
@@ -62,8 +61,8 @@ pub returns-in-Some-clause-goes : goal.returns-in-Some-clause-goes
 returns-in-Some-clause-goes g c =
     let invariant = c.loop-index.invariant in
     let within : number c.in-Some.token ≤ 4294967296 = omega (arith, c.get-number.ensures) in
-    let can = subst (λ wanted. MayBeAskedOfFitting g.L.fits g.F.Fn wanted)
-    (sym invariant.wanted) c.requires.can in
+    let can = subst (λ wanted. MayBeAskedOfFitting g.L.Lifecycle.fits g.F.Fn wanted)
+    (sym invariant.wanted) c.requires in
     record {
       on = λ finite. (
         can,
@@ -81,7 +80,7 @@ returns-in-Some-clause-goes g c =
 -- the next shard begins anew, and in the one before no more was wanted
 pub loop-index-preserved : goal.loop-index-preserved
 loop-index-preserved g c =
-    let old = (c.args.self.now.shard, c.args.self.now.after) in
+    let old : Standing = (c.args.self.now.shard, c.args.self.now.after) in
     let after = number_or_zero c.loop-index.self.after in
     let invariant = c.loop-index.invariant in
     let below : c.loop-index.index < c.args.self.now.cache.now.shards =
