@@ -1,5 +1,5 @@
 -- Loads whose loader gives a value with its end.
-use Rattle.std.proofs.Common.{◌≡◌, inl, inr, ℕ, Bool, Result, Ok, Err, ap, ◌∙◌}
+use Rattle.std.proofs.Common.{inl, inr, ℕ, Bool, Result, Ok, Err, ap, ◌∙◌}
 use Rattle.quick_cache_shard.specs.Shard.{Shard, KeepsTerms, KeepsWork}
 use Rattle.quick_cache_model.specs.declared.refusal.Refusal.{Refusal}
 use Rattle.quick_cache_model.specs.CacheState.{CacheState}

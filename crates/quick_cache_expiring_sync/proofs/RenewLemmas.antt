@@ -1,5 +1,5 @@
 -- Entries that are renewed where they live.
-use Rattle.std.proofs.Common.{◌≡◌, ℕ, Bool, true, Result, Ok, Err, refl, sym, subst}
+use Rattle.std.proofs.Common.{ℕ, Bool, true, Result, Ok, Err, refl, sym, subst}
 use Rattle.quick_cache_model.specs.declared.refusal.Refusal.{Refusal}
 use Rattle.quick_cache_locked.specs.Changes.{LeavesFitting, TellsOf}
 use Rattle.quick_cache_locked.specs.Fitting.{ClonesFit}

@@ -1,5 +1,5 @@
 -- What a task that loads is given.
-use Rattle.std.proofs.Common.{◌≡◌, ◌⊎◌, inl, inr, ℕ, Bool, true, Option, Some, None, IfSome, Result, Ok, Err, IfOk}
+use Rattle.std.proofs.Common.{◌≡◌, inl, inr, ℕ, Bool, true, Option, Some, None, IfSome, Result, Ok, Err, IfOk}
 use Rattle.quick_cache_model.specs.declared.refusal.Refusal.{Refusal}
 use Rattle.quick_cache_guard.specs.Loaders.{IfLoaded}
 use Rattle.quick_cache_locked.specs.Fitting.{FitsQuery}
@@ -7,7 +7,6 @@ use Rattle.quick_cache_expiring.specs.declared.lasting.Lasting.{Lasting}
 use Rattle.quick_cache_expiring.specs.Lastings.{lasting_of}
 use Rattle.quick_cache_expiring.specs.Lives.{lives}
 use Rattle.quick_cache_expiring_sync.specs.Loads.{GivesAt}
-use Rattle.quick_cache_expiring_sync.specs.Looks.{FitsAt}
 
 module _ {K V E : Type 0} (fits : K → Lasting V → Type 0) where
   -- what is loaded fits the key of the guard, if there is one

@@ -37,7 +37,7 @@ pub struct SharedExpiring<
     pub(crate) cache: Cache<K, Lasting<V>, ByValue<We>, B, L, A>,
     // How many looks found what was over.
     pub(crate) expired: AtomicU64,
-    // How many of these were loads, each of which the cache counted as a hit.
+    // How many of these the cache counted as hits: of loads, of tries, and of many keys at once.
     pub(crate) not_hits: AtomicU64,
     // The shard in which the next purge of some goes on, and the token there behind which it does, 0
     // for none. Whatever they are, such a purge is one of some entries.

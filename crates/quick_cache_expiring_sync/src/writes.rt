@@ -77,7 +77,7 @@ impl<
 
     /// Sets the weight that the cache may hold, and hands what leaves to the lifecycle, as the cache's
     /// own `set_capacity`. What is over counts like any other. It takes the write lock of each shard
-    /// in turn, and no memory.
+    /// in turn, and no memory. Its contract says no more than that it is safe.
     pub fn set_capacity<R: Wait>(&self, rt: &R, capacity: u64) {
         self.cache.set_capacity(rt, capacity);
     }
@@ -187,7 +187,8 @@ impl<
     }
 
     /// Drops all entries, and forgets those that left. The counts, the sizes and the memory stay. No
-    /// hook is called. It takes the write lock of each shard in turn.
+    /// hook is called. It takes the write lock of each shard in turn. Its contract says no more than
+    /// that it is safe.
     pub fn clear<R: Wait>(&self, rt: &R) {
         self.cache.clear(rt);
     }

@@ -1,4 +1,5 @@
-//! What those rely on who bound, fill or purge a cache for one thread whose entries end, or claim a load.
+//! What those rely on who fill, bound or purge a cache for one thread whose entries end, or claim
+//! a load.
 ghost use Rattle.std.specs.Prelude.{◌≡◌, ℕ, IfNone, IfOk, IfSome, OnErr, Ok, true, false};
 ghost use Rattle.std.specs.List.{Contains};
 ghost use Rattle.quick_cache_model.specs.CacheState.{Item};
