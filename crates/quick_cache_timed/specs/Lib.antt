@@ -1,0 +1,4 @@
+pub mod Moments
+pub mod Lives
+pub mod Lent
+pub mod Looks
