@@ -12,4 +12,5 @@ pub mod saved;
 pub mod seats;
 pub mod shards;
 pub mod shared;
+pub mod timed;
 pub mod walks;

@@ -18,7 +18,7 @@ ghost use Rattle.quick_cache_expiring_sync.specs.Looks.{ShowsAt, ShowsFittingAt}
 ghost use Rattle.quick_cache_expiring_sync.specs.Purges.{PurgesAll};
 ghost use Rattle.quick_cache_expiring_sync.specs.Renewals.{HasLived, RenewedFits, Touches};
 ghost use Rattle.quick_cache_timed.specs.Lives.{end_by};
-ghost use Rattle.quick_cache_timed.specs.Looks.{GetsSharedBy};
+ghost use Rattle.quick_cache_timed.specs.SharedLooks.{GetsSharedBy};
 ghost use Rattle.quick_cache_timed.specs.Moments.{AtEachMoment, AtMoment};
 
 use crate::ticker::Ticker;
