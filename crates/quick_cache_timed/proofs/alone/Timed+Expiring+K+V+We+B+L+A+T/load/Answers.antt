@@ -1,0 +1,13 @@
+use Rattle.quick_cache_timed.proofs.alone.Timed+Expiring+K+V+We+B+L+A+T.load.Goals as goal
+
+-- at the moment that was told, behind the renewal
+pub returns-clause-loads : goal.returns-clause-loads
+returns-clause-loads g c = (
+  c.moment-now.result,
+  c.moment-now.ensures,
+  (
+    c.renew.new.self.inner,
+    rw c.of-life.ensures.life at c.renew.ensures.renews,
+    rw c.of-life.ensures.life at c.load.ensures.loads,
+  ),
+)
