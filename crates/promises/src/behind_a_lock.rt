@@ -12,5 +12,4 @@ pub mod saved;
 pub mod seats;
 pub mod shards;
 pub mod shared;
-pub mod timed;
 pub mod walks;
