@@ -48,6 +48,17 @@ fn what_lives_is_renewed_by_threads_and_what_is_over_is_purged(rt: HostRuntime) 
 }
 
 #[test]
+fn a_look_renews_what_lives(rt: HostRuntime) {
+    let entries: SharedExpiring<u64, u64> = expect_ok!(rt; SharedExpiring::new(rt.alloc(), 8));
+    expect_eq!(rt; entries.insert(&rt, 1, 100, 0, 10).is_ok(), true);
+    // A moment, and what is found then. Each look lets it live for ten more.
+    for (now, found) in [(9, Some(100)), (18, Some(100)), (28, None)] {
+        let looked = entries.get_and_touch(&rt, &1, now, 10);
+        expect_eq!(rt; (now, looked), (now, Ok(found)));
+    }
+}
+
+#[test]
 fn a_shared_purge_of_some_goes_on_where_it_stopped(rt: HostRuntime) {
     // One shard, since each is made for 32 entries at least.
     for (at_most, purged) in PURGED_IN_PARTS {
