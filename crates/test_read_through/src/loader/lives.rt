@@ -1,6 +1,7 @@
 //! Answers with lives of their own, old answers that are asked for anew, and those that are answered
 //! while a loader fails.
 use crate::loader::hundreds::hundreds;
+use quick_cache_model::DefaultHashBuilder;
 use read_through::{ByAnswer, Given, OptionsBuilder, ReadThrough, UnitWeighter, WithLife};
 use std::alloc::Global;
 use std::sync::atomic::{AtomicU64, Ordering};
@@ -108,6 +109,26 @@ fn while_a_loader_fails_an_old_answer_is_given(rt: HostRuntime) {
     for (now, refresh_after, value, error) in rows {
         let got = loaded.try_get_or_refresh(&rt, &1, now, refresh_after);
         expect_eq!(rt; (now, got.map(given)), (now, Ok((value, error))));
+    }
+}
+
+#[test]
+fn a_loader_is_made_with_a_builder(rt: HostRuntime) {
+    let options = expect_ok!(rt; OptionsBuilder::new()
+        .estimated_items_capacity(8)
+        .weight_capacity(8)
+        .build());
+    let loaded: ReadThrough<u64, u64, _> = expect_ok!(rt; ReadThrough::with_builder(
+        rt.alloc(),
+        options,
+        UnitWeighter,
+        DefaultHashBuilder::new(),
+        10,
+        |key: &u64, now: u64| hundreds(*key, now),
+    ));
+    // Asked at 9 it is the value of 5, and at 15 that is over.
+    for (now, value) in [(5, 105), (9, 105), (15, 115)] {
+        expect_eq!(rt; (now, loaded.get(&rt, &1, now)), (now, Ok(value)));
     }
 }
 
