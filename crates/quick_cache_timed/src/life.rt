@@ -1,6 +1,6 @@
 //! How long entries live.
 ghost use Rattle.std.specs.Prelude.{◌≡◌, ◌≤◌, ◌*◌, ◌-◌};
-ghost use Rattle.core.specs.Duration.{as_nanos};
+ghost use Rattle.std.specs.Duration.{as_nanos};
 ghost use Rattle.quick_cache_timed.specs.Lives.{life_by, millis_of, shortened};
 
 use quick_cache_model::{DefaultHashBuilder, hash_of};

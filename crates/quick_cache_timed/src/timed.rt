@@ -1,7 +1,7 @@
 //! A cache with a clock and a life of its own.
 ghost use Rattle.std.specs.Borrow.{Lends, sem};
 ghost use Rattle.std.specs.Prelude.{◌≡◌, false, true};
-ghost use Rattle.core.specs.Duration.{as_nanos};
+ghost use Rattle.std.specs.Duration.{as_nanos};
 ghost use Rattle.quick_cache_timed.specs.Lives.{millis_of};
 
 use crate::life::{Life, millis_of};
