@@ -8,8 +8,6 @@ mod looking;
 #[cfg(test)]
 mod making;
 #[cfg(test)]
-mod pages;
-#[cfg(test)]
 mod promises;
 #[cfg(test)]
 mod runs;
