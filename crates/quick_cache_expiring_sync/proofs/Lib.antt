@@ -2,4 +2,3 @@ mod LookLemmas
 mod PurgeLemmas
 mod RenewLemmas
 mod TellLemmas
-mod TaskLemmas

@@ -3,4 +3,3 @@ pub mod Many
 pub mod Purges
 pub mod Renewals
 pub mod Loads
-pub mod Tasks

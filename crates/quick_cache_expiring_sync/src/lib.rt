@@ -1,7 +1,6 @@
 //! Entries that end, in a cache that threads share, over the public contracts of that cache alone.
 #![tactic(auto)]
 
-mod future;
 mod gets;
 mod loads;
 mod many;
@@ -9,7 +8,6 @@ mod purging;
 mod shared;
 mod writes;
 
-pub use future::GetOrInsertAt;
 pub use quick_cache_expiring::{ByValue, Lasting, end_of};
 pub use quick_cache_model::{
     Bytes, BytesIn, DefaultHashBuilder, Refusal, Text, TextIn, UnitWeighter, Weighter,

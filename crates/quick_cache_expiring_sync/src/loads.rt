@@ -9,11 +9,10 @@ ghost use Rattle.quick_cache_expiring.specs.Lastings.{ClonesLasting, lasting_of}
 ghost use Rattle.quick_cache_expiring_sync.specs.Loads.{GivesAt, ChoosesToLoad};
 ghost use Rattle.quick_cache_expiring_sync.specs.Looks.{FitsAt};
 
-use crate::future::{GetOrInsertAt, GuardOf};
 use crate::shared::SharedExpiring;
-use futures::Future;
-use quick_cache_expiring::{Lasting, end_of};
+use quick_cache_expiring::{ByValue, Lasting, end_of};
 use quick_cache_guard::{EntryResult, GuardResult, LoadingShard, PlaceholderGuard};
+use quick_cache_locked::LockedShard;
 use quick_cache_model::{Lifecycle, Refusal, ToKey, Weighter};
 use quick_cache_shard::EntryAction;
 use std::alloc::Allocator;
@@ -21,6 +20,20 @@ use std::hash::{BuildHasher, Hash};
 use std::sync::Wait;
 use std::sync::atomic::Ordering;
 use std::time::{Clock, Duration};
+
+/// A shard of the cache, as its lock keeps it.
+type ShardOf<K, V, We, B, L, A> = LockedShard<K, Lasting<V>, ByValue<We>, B, L, A>;
+
+/// The right to load a key.
+type GuardOf<'a, K, V, We, B, L, R, A> = PlaceholderGuard<
+    'a,
+    K,
+    Lasting<V>,
+    L,
+    ShardOf<K, V, We, B, L, A>,
+    R,
+    A,
+>;
 
 impl<
     K: Eq + Hash + Drop,
@@ -120,7 +133,7 @@ impl<
 
     /// Looks at the entry once more, by an entry call, since another may have loaded the key anew by
     /// now: a clone of what serves, or the right to load what does not.
-    pub(crate) fn look_anew<'a, Q: ToKey<K>, R: Wait + Clock>(
+    fn look_anew<'a, Q: ToKey<K>, R: Wait + Clock>(
         &'a self,
         rt: &'a R,
         query: &Q,
@@ -148,36 +161,6 @@ impl<
             EntryResult::Refused(refusal) => EntryResult::Refused(refusal),
         }
     }
-
-    /// A future that gives the value under the query's key, or the one that the loader's future
-    /// gives, as `get_or_insert_with` does. What it gives is said on `GetOrInsertAt`. The call takes
-    /// no lock; a poll does.
-    pub fn get_or_insert_async<
-        'a,
-        Q: ToKey<K>,
-        R: Wait + Clock,
-        E: Drop,
-        F: Future<Output = Result<V, E>>,
-    >(
-        &'a self,
-        rt: &'a R,
-        query: &'a Q,
-        now: u64,
-        life: u64,
-        loader: F,
-    ) -> GetOrInsertAt<'a, Q, K, V, We, B, L, R, F, E, A>
-        requires stands { StandsForGiven (Q.to_key_gives query.now) (Q.equivalent query.now) }
-        requires loader { F.can_poll loader }
-        requires loads { (value : V) → F.gives loader (Ok value) → (key : K)
-            → Q.to_key_gives query.now key → L.fits key (lasting_of value (end_of now life)) }
-        requires clones { ClonesFit L.fits (ClonesLasting V.is_clone) }
-        ensures query { result.query ≡ query.now }
-        ensures moment { result.moment ≡ now }
-        ensures loader { result.loader ≡ loader }
-        ensures begins { result.is_finished ≡ false }
-    {
-        GetOrInsertAt::new(rt, self, query, now, end_of(now, life), loader)
-    }
 }
 
 /// What becomes of an entry at a moment: where it serves it stays, and a clone is told, or why there
@@ -197,7 +180,7 @@ fn look<V: Clone>(lasting: &Lasting<V>, now: u64) -> EntryAction<Result<V, Refus
 
 /// Puts a clone of what was loaded in by the guard, with its end, and answers it. The guard is taken
 /// from where it stands, since a call that takes it by value gets no proof.
-pub(crate) fn fill_with<
+fn fill_with<
     K: Eq + Hash + Drop,
     V: Clone + Drop,
     L: Lifecycle<K, Lasting<V>>,

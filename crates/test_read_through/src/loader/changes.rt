@@ -1,7 +1,7 @@
 //! What is changed while a key is loaded, or asked for anew: what was changed stands, and no value
 //! whose load had begun before it is stored over that.
 use crate::loader::hundreds::hundreds;
-use read_through::ReadThrough;
+use read_through::{ReadThrough, Refusal};
 use std::sync::{Barrier, Wait};
 use std::thread::join;
 use std::time::Clock;
@@ -54,6 +54,16 @@ fn make<R: Wait + Clock, F: Fn(&u64, u64) -> u64>(
     }
 }
 
+/// Asks for the key 1 at the moment 20, anew where it is older than five moments.
+fn ask<R: Wait + Clock, F: Fn(&u64, u64) -> u64>(
+    rt: &R,
+    loaded: &ReadThrough<u64, u64, F>,
+) -> Result<u64, Refusal>
+    requires { F.IsAlwaysCallable loaded.now.loader }
+{
+    loaded.get_or_refresh(rt, &1, 20, 5)
+}
+
 #[test]
 fn a_value_whose_load_began_before_a_change_is_not_stored_behind_it(rt: HostRuntime) {
     let (rt, both) = (&rt, &Barrier::new(2));
@@ -75,7 +85,7 @@ fn a_value_whose_load_began_before_a_change_is_not_stored_behind_it(rt: HostRunt
             if first == 5 {
                 expect_eq!(rt; loaded.get(rt, &1, 5), Ok(105));
             }
-            let asks = || loaded.get_or_refresh(rt, &1, 20, 5);
+            let asks = || ask(rt, loaded);
             let changes = || {
                 both.wait(rt);
                 make(rt, meanwhile, loaded);

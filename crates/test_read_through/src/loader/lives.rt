@@ -2,11 +2,12 @@
 //! while a loader fails.
 use crate::loader::hundreds::hundreds;
 use quick_cache_model::DefaultHashBuilder;
-use read_through::{ByAnswer, Given, OptionsBuilder, ReadThrough, UnitWeighter, WithLife};
+use read_through::{ByAnswer, Given, OptionsBuilder, ReadThrough, Refusal, UnitWeighter, WithLife};
 use std::alloc::Global;
 use std::sync::atomic::{AtomicU64, Ordering};
 use std::sync::{Barrier, Wait};
 use std::thread::join;
+use std::time::Clock;
 use test_tools::{expect_eq, expect_ok};
 
 /// The life of each answer, and gets: a moment, and the one at which the answer was loaded.
@@ -176,6 +177,17 @@ fn a_loader_that_fails_is_asked_again_after_a_pause(rt: HostRuntime) {
     expect_eq!(rt; [loaded.try_get(&rt, &2, 15), loaded.try_get(&rt, &2, 15)], [Ok(Err(15)); 2]);
 }
 
+/// Asks for the key 1 at a moment, anew.
+fn ask<R: Wait + Clock, F: Fn(&u64, u64) -> Result<u64, u64>>(
+    rt: &R,
+    loaded: &ReadThrough<u64, u64, F>,
+    now: u64,
+) -> Result<(u64, u64), Refusal>
+    requires { F.IsAlwaysCallable loaded.now.loader }
+{
+    loaded.try_get_or_refresh(rt, &1, now, 0).map(given)
+}
+
 #[test]
 fn while_one_asks_an_old_answer_is_given_to_others(rt: HostRuntime) {
     let (rt, both) = (&rt, &Barrier::new(2));
@@ -194,10 +206,10 @@ fn while_one_asks_an_old_answer_is_given_to_others(rt: HostRuntime) {
     ));
     let loaded = &loaded.with_grace(20).with_retry_after(5);
     expect_eq!(rt; loaded.try_get(rt, &1, 5), Ok(Ok(105)));
-    let asks = || loaded.try_get_or_refresh(rt, &1, 20, 0).map(given);
+    let asks = || ask(rt, loaded, 20);
     let others = || {
         both.wait(rt);
-        let got = [20, 21, 25].map(|now| loaded.try_get_or_refresh(rt, &1, now, 0).map(given));
+        let got = [20, 21, 25].map(|now| ask(rt, loaded, now));
         both.wait(rt);
         got
     };
