@@ -12,7 +12,7 @@ ghost use Rattle.std.specs.Prelude.{◌≡◌, ℕ, Bool, false, IsTrue};
 /// of a default cannot be proved to meet a relation that is chosen later.
 pub trait Lifecycle<K: Eq + Drop, V: Drop> {
     /// What a call keeps between its hooks.
-    type RequestState: Default + Drop;
+    type RequestState: Default;
 
     /// Whether pinning depends on the key and the value alone.
     ghost steady: { Self → Type 0 } = { λ _. Unit {0} };
