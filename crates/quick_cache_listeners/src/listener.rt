@@ -7,7 +7,7 @@ use quick_cache_model::Lifecycle;
 pub trait Listener<K, V>: Drop {
     /// What a call keeps between the pairs that it tells of. A call that is handed none begins with
     /// the default, and drops it at its end.
-    type State: Default + Drop;
+    type State: Default;
 
     /// From a state, at a pair that leaves, to the state after: anything, where the listener says
     /// no more.

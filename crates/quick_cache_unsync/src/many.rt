@@ -29,6 +29,8 @@ impl<
         &mut self,
         mut pairs: I,
     ) -> Result<(), (K, V, Refusal, I)>
+    where
+        L::RequestState: Drop,
         requires can { I.can_next pairs }
         requires ends { IsFinite (I.remaining pairs) }
         // Each pair is an insert of its own, until one is refused or none is left.

@@ -66,6 +66,8 @@ impl<
     /// capacity 0 the target is that of the default share, and the limit stays. The oldest ghosts
     /// go that are too many then. It takes no memory.
     pub fn set_capacity(&mut self, capacity: u64)
+    where
+        L::RequestState: Drop,
         // Where pinning is steady, it is a step of its definition.
         ensures sets { IsDoneAlone L.RequestState.is_default
             (SetsCapacityBy ⟦<Self as Ruled>⟧.goes no_touches self.old capacity self.new) }

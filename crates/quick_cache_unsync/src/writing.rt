@@ -27,6 +27,8 @@ impl<
     /// As `insert_with_lifecycle`.
     #[inline(always)]
     pub fn insert(&mut self, key: K, value: V) -> Result<(), (K, V, Refusal)>
+    where
+        L::RequestState: Drop,
         // Where pinning is steady, the write is a step of its definition.
         ensures inserts { IsDoneAlone L.RequestState.is_default
             (InsertsBy ⟦<Self as Ruled>⟧.goes no_touches self.old K.eq key value result self.new) }
@@ -49,6 +51,8 @@ impl<
     /// changed then, and no hook was called.
     #[inline]
     pub fn put(&mut self, key: K, value: V) -> Result<(), Refusal>
+    where
+        L::RequestState: Drop,
         // It is the insert of the pair, with the same room and work.
         ensures puts { IsDoneAlone L.RequestState.is_default
             (InsertsBy ⟦<Self as Ruled>⟧.goes no_touches self.old K.eq key value
@@ -100,6 +104,8 @@ impl<
     ///
     /// As `replace_with_lifecycle`.
     pub fn replace(&mut self, key: K, value: V, soft: bool) -> Result<(), (K, V)>
+    where
+        L::RequestState: Drop,
         // Where pinning is steady, the write is a step of its definition. It is never refused.
         ensures replaces { IsDoneAlone L.RequestState.is_default
             (ReplacesBy ⟦<Self as Ruled>⟧.goes no_touches self.old K.eq soft key value result

@@ -12,7 +12,7 @@ use quick_cache_model::{Lifecycle, Queue};
 /// Is told of each pair that is evicted, replaced or turned away, and why.
 pub trait ListenerWhy<K, V>: Drop {
     /// What a call keeps between the pairs that it tells of.
-    type State: Default + Drop;
+    type State: Default;
 
     /// From a state, at a pair that leaves for that cause, to the state after: anything, where the
     /// listener says no more.

@@ -40,6 +40,7 @@ impl<
     ) -> Result<V, LoadError<E>>
     where
         V: Clone,
+        L::RequestState: Drop,
         requires stands { StandsForGiven (Q.to_key_gives query.now) (Q.equivalent query.now) }
         requires loader { F.pre loader }
         // Where pinning is steady, a value fills the placeholder by a step of its definition.
@@ -69,6 +70,7 @@ impl<
     ) -> Result<V, LoadError<E>>
     where
         V: Clone,
+        L::RequestState: Drop,
         requires hash_is { hash ≡ ⟦<Self as Keyed>⟧.hash self.old.builder (Q.hash_input query.now) }
         requires stands { StandsForGiven (Q.to_key_gives query.now) (Q.equivalent query.now) }
         requires loader { F.pre loader }
@@ -116,6 +118,7 @@ impl<
     ) -> Result<V, LoadError<E>>
     where
         V: Clone,
+        L::RequestState: Drop,
         requires awaited { IsAwaited placeholder.now.ticket self.old.state }
         requires loader { F.pre loader }
         ensures ends { EndsFetchBy ⟦<Self as Ruled>⟧.goes no_touches self.old

@@ -70,6 +70,8 @@ impl<
     /// passes the admission check, and one that is too heavy is told to the cold hook; `peek` tells
     /// whether it is resident. It takes no memory.
     pub fn insert(self, value: V)
+    where
+        L::RequestState: Drop,
         // Where pinning is steady, the fill is a step of its definition.
         ensures fills { IsDoneAlone L.RequestState.is_default
             (FillsIfThereBy ⟦<Cache<K, V, We, B, L, A> as Ruled>⟧.goes no_touches

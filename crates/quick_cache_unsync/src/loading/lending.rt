@@ -43,6 +43,8 @@ impl<
         query: &'a Q,
         loader: F,
     ) -> Result<Ref<'a, Q, K, V, We, B, L, A>, NotLoaded<E>>
+    where
+        L::RequestState: Drop,
         requires stands { StandsForGiven (Q.to_key_gives query.now) (Q.equivalent query.now) }
         requires loader { F.pre loader }
         // Where pinning is steady, a value fills the placeholder by a step of its definition.
@@ -92,6 +94,8 @@ impl<
         query: &'a Q,
         loader: F,
     ) -> Result<RefMut<'a, Q, K, V, We, B, L, A>, NotLoaded<E>>
+    where
+        L::RequestState: Drop,
         requires stands { StandsForGiven (Q.to_key_gives query.now) (Q.equivalent query.now) }
         requires loader { F.pre loader }
         // Where pinning is steady, a value fills the placeholder by a step of its definition.

@@ -73,6 +73,8 @@ impl<
         placeholder: &Placeholder,
         loader: F,
     ) -> Result<bool, E>
+    where
+        L::RequestState: Drop,
         requires hash_is { hash ≡ ⟦<Self as Keyed>⟧.hash self.old.builder (Q.hash_input query.now) }
         requires awaited { IsAwaited placeholder.now.ticket self.old.state }
         requires loader { F.pre loader }
@@ -103,6 +105,8 @@ impl<
         query: &Q,
         loader: F,
     ) -> (u32, Result<Result<bool, E>, Refusal>)
+    where
+        L::RequestState: Drop,
         requires hash_is { hash ≡ ⟦<Self as Keyed>⟧.hash self.old.builder (Q.hash_input query.now) }
         requires stands { StandsForGiven (Q.to_key_gives query.now) (Q.equivalent query.now) }
         requires loader { F.pre loader }
@@ -139,6 +143,8 @@ impl<
         query: &Q,
         loader: F,
     ) -> Result<Result<bool, E>, Refusal>
+    where
+        L::RequestState: Drop,
         requires stands { StandsForGiven (Q.to_key_gives query.now) (Q.equivalent query.now) }
         requires loader { F.pre loader }
         // Where pinning is steady, a value fills the placeholder by a step of its definition.
