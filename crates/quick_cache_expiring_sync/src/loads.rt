@@ -64,6 +64,8 @@ impl<
         life: u64,
         loader: F,
     ) -> Result<Result<V, E>, Refusal>
+    where
+        L::RequestState: Drop,
         requires stands { StandsForGiven (Q.to_key_gives query.now) (Q.equivalent query.now) }
         requires loader { F.pre loader }
         // What it gives fits with its end each key that the query becomes, and so do the clones of
@@ -104,6 +106,8 @@ impl<
         life: u64,
         loader: F,
     ) -> Result<Result<V, E>, Refusal>
+    where
+        L::RequestState: Drop,
         requires stands { StandsForGiven (Q.to_key_gives query.now) (Q.equivalent query.now) }
         requires loader { F.pre loader }
         requires loads { (value : V) → F.post loader (Ok value) → (key : K)
@@ -193,6 +197,8 @@ fn fill_with<
     until: u64,
     loaded: Result<V, E>,
 ) -> Result<V, E>
+where
+    L::RequestState: Drop,
     requires fits { IfSome guard.old (λ key. IfOk loaded
         (λ value. L.fits key (lasting_of value until))) }
     requires clones { ClonesFit L.fits (ClonesLasting V.is_clone) }

@@ -49,6 +49,8 @@ impl<
         now: u64,
         life: u64,
     ) -> Result<(), (K, Lasting<V>, Refusal)>
+    where
+        L::RequestState: Drop,
         requires fits { L.fits key (lasting_of value (end_of now life)) }
         // It is the insert of the value with its end.
         ensures answers { FromSome L.Lifecycle K.eq (λ shard.
@@ -65,6 +67,8 @@ impl<
     ///
     /// Why, as `insert` has it.
     pub fn put<R: Wait>(&self, rt: &R, key: K, value: V, now: u64, life: u64) -> Result<(), Refusal>
+    where
+        L::RequestState: Drop,
         requires fits { L.fits key (lasting_of value (end_of now life)) }
         ensures answers { FromSome L.Lifecycle K.eq (λ shard.
             InsertsAloneBy ⟦<Cache<K, Lasting<V>, ByValue<We>, B, L, A> as Ruled>⟧.goes K.eq shard
@@ -78,7 +82,10 @@ impl<
     /// Sets the weight that the cache may hold, and hands what leaves to the lifecycle, as the cache's
     /// own `set_capacity`. What is over counts like any other. It takes the write lock of each shard
     /// in turn, and no memory. Its contract says no more than that it is safe.
-    pub fn set_capacity<R: Wait>(&self, rt: &R, capacity: u64) {
+    pub fn set_capacity<R: Wait>(&self, rt: &R, capacity: u64)
+    where
+        L::RequestState: Drop,
+    {
         self.cache.set_capacity(rt, capacity);
     }
 

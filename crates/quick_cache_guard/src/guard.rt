@@ -152,6 +152,8 @@ impl<
     ///
     /// As `insert_with_lifecycle`.
     pub fn insert(self, value: V) -> Result<(), FillError<V, Self>>
+    where
+        L::RequestState: Drop,
         requires fits { L.fits self value }
         requires clones { ClonesFit L.fits V.is_clone }
         ensures back { IfErr result (λ error. back_of error ≡ value) }

@@ -243,6 +243,8 @@ impl<
         key: K,
         value: V,
     ) -> Result<(), (K, V, Refusal)>
+    where
+        L::RequestState: Drop,
         requires fits { L.fits key value }
         // The history goes on from what the seat had seen, and ends with this call of the key's shard.
         ensures extends { OnOk result (Extends seat.old (Entry.Made seat.old.turn seat.new.turn (shard_of

@@ -233,6 +233,8 @@ impl<
     ///
     /// As `insert_with_lifecycle`.
     pub fn insert<R: Wait>(&self, rt: &R, key: K, value: V) -> Result<(), (K, V, Refusal)>
+    where
+        L::RequestState: Drop,
         requires fits { L.fits key value }
         ensures answers { FromSome L.Lifecycle K.eq (λ shard.
             InsertsAloneBy ⟦<Self as Ruled>⟧.goes K.eq shard
@@ -250,6 +252,8 @@ impl<
     /// Why it was refused: `SlotsFull` or `Memory`, only where nothing stood under its key. Nothing
     /// changed then, and no hook was called.
     pub fn put<R: Wait>(&self, rt: &R, key: K, value: V) -> Result<(), Refusal>
+    where
+        L::RequestState: Drop,
         requires fits { L.fits key value }
         ensures answers { FromSome L.Lifecycle K.eq (λ shard.
             InsertsAloneBy ⟦<Self as Ruled>⟧.goes K.eq shard

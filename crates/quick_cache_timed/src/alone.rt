@@ -82,6 +82,8 @@ impl<
     ///
     /// The pair with its end and why. Nothing changed then, and no hook was called.
     pub fn insert(&mut self, key: K, value: V) -> Result<(), (K, Lasting<V>, Refusal)>
+    where
+        L::RequestState: Drop,
         ensures inserts { AtMoment (T.tells self.old.ticker) (λ now. IsDoneAlone
             L.RequestState.is_default
             (InsertsBy ⟦<Cache<K, Lasting<V>, ByValue<We>, B, L, A> as Ruled>⟧.goes no_touches
@@ -103,6 +105,8 @@ impl<
     ///
     /// Why. Nothing changed then, and no hook was called.
     pub fn put(&mut self, key: K, value: V) -> Result<(), Refusal>
+    where
+        L::RequestState: Drop,
         ensures puts { AtMoment (T.tells self.old.ticker) (λ now. IsDoneAlone
             L.RequestState.is_default
             (InsertsBy ⟦<Cache<K, Lasting<V>, ByValue<We>, B, L, A> as Ruled>⟧.goes no_touches
@@ -158,6 +162,8 @@ impl<
         query: &Q,
         loader: F,
     ) -> Result<Result<bool, E>, Refusal>
+    where
+        L::RequestState: Drop,
         requires stands { StandsForGiven (Q.to_key_gives query.now) (Q.equivalent query.now) }
         requires loader { F.pre loader }
         ensures loads { AtMoment (T.tells self.old.ticker) (λ now. (mid : Entries K V We B L)
@@ -192,6 +198,7 @@ impl<
     ) -> Result<V, LoadError<E>>
     where
         V: Clone,
+        L::RequestState: Drop,
         requires stands { StandsForGiven (Q.to_key_gives query.now) (Q.equivalent query.now) }
         requires loader { F.pre loader }
         ensures fetches { AtMoment (T.tells self.old.ticker) (λ now. (mid : Entries K V We B L)

@@ -87,6 +87,8 @@ impl<
     ///
     /// The pair with its end and why. Nothing changed then, and no hook was called.
     pub fn insert<R: Wait>(&self, rt: &R, key: K, value: V) -> Result<(), (K, Lasting<V>, Refusal)>
+    where
+        L::RequestState: Drop,
         requires fits { AtEachMoment (T.tells self.now.ticker) (λ now. L.fits key
             (lasting_of value (end_by self.now.life (K.hash_input key) now))) }
         ensures answers { AtMoment (T.tells self.now.ticker) (λ now. FromSome L.Lifecycle K.eq
@@ -106,6 +108,8 @@ impl<
     ///
     /// Why. Nothing changed then, and no hook was called.
     pub fn put<R: Wait>(&self, rt: &R, key: K, value: V) -> Result<(), Refusal>
+    where
+        L::RequestState: Drop,
         requires fits { AtEachMoment (T.tells self.now.ticker) (λ now. L.fits key
             (lasting_of value (end_by self.now.life (K.hash_input key) now))) }
         ensures answers { AtMoment (T.tells self.now.ticker) (λ now. FromSome L.Lifecycle K.eq
@@ -150,6 +154,7 @@ impl<
     ) -> Result<Result<V, E>, Refusal>
     where
         A: Clone,
+        L::RequestState: Drop,
         requires stands { StandsForGiven (Q.to_key_gives query.now) (Q.equivalent query.now) }
         requires loader { F.pre loader }
         requires renews { IsTrue self.now.life.slides → AtEachMoment (T.tells self.now.ticker)

@@ -207,6 +207,8 @@ impl<
     ///
     /// The pair and why. No call was made then, and none is counted.
     pub fn insert(&mut self, seat: &mut Seat<G>, key: K, value: V) -> Result<(), (K, V, Refusal)>
+    where
+        L::RequestState: Drop,
         ensures kept { IsKept ⟦<Cache<K, V, We, B, L, A> as Ruled>⟧.goes L.RequestState.is_default
             K.eq K.is_clone V.is_clone self.old }
         ensures inserts { OnOk result (IsDoneAlone L.RequestState.is_default

@@ -108,6 +108,8 @@ impl<
         key: K,
         value: V,
     ) -> Result<(), (K, V, Refusal)>
+    where
+        L::RequestState: Drop,
         ensures answers { OnOk result (WasMade {M = A}
             ⟦<Cache<K, V, We, B, L, A> as Ruled>⟧.goes L.RequestState.is_default K.eq K.is_clone
             V.is_clone (λ old new. IsDoneAlone L.RequestState.is_default

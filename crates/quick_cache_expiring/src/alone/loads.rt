@@ -37,6 +37,8 @@ impl<
         life: u64,
         loader: F,
     ) -> Result<Result<bool, E>, Refusal>
+    where
+        L::RequestState: Drop,
         requires stands { StandsForGiven (Q.to_key_gives query.now) (Q.equivalent query.now) }
         requires loader { F.pre loader }
         ensures loads { LoadsAt ⟦<Cache<K, Lasting<V>, ByValue<We>, B, L, A> as Ruled>⟧.goes
@@ -77,6 +79,7 @@ impl<
     ) -> Result<V, LoadError<E>>
     where
         V: Clone,
+        L::RequestState: Drop,
         requires stands { StandsForGiven (Q.to_key_gives query.now) (Q.equivalent query.now) }
         requires loader { F.pre loader }
         ensures fetches { FetchesAt ⟦<Cache<K, Lasting<V>, ByValue<We>, B, L, A> as Ruled>⟧.goes

@@ -44,6 +44,8 @@ impl<
         now: u64,
         life: u64,
     ) -> Result<(), (K, Lasting<V>, Refusal)>
+    where
+        L::RequestState: Drop,
         // It is the insert of the value with its end.
         ensures inserts { IsDoneAlone L.RequestState.is_default
             (InsertsBy ⟦<Cache<K, Lasting<V>, ByValue<We>, B, L, A> as Ruled>⟧.goes no_touches
@@ -65,6 +67,8 @@ impl<
     ///
     /// Why, as `insert` has it.
     pub fn put(&mut self, key: K, value: V, now: u64, life: u64) -> Result<(), Refusal>
+    where
+        L::RequestState: Drop,
         // It is the insert of the pair, with the same room and work.
         ensures puts { IsDoneAlone L.RequestState.is_default
             (InsertsBy ⟦<Cache<K, Lasting<V>, ByValue<We>, B, L, A> as Ruled>⟧.goes no_touches
@@ -84,6 +88,8 @@ impl<
     /// Sets the weight that the cache may hold, and hands what leaves to the lifecycle, with a
     /// request state of its own. What is over counts like any other. It takes no memory.
     pub fn set_capacity(&mut self, capacity: u64)
+    where
+        L::RequestState: Drop,
         ensures sets { IsDoneAlone L.RequestState.is_default
             (SetsCapacityBy ⟦<Cache<K, Lasting<V>, ByValue<We>, B, L, A> as Ruled>⟧.goes no_touches
             self.old.cache capacity self.new.cache) }

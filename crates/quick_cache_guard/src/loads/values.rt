@@ -77,6 +77,8 @@ pub fn get_or_insert_with<
     E: Drop,
     F: FnOnce() -> Result<V, E>,
 >(rt: &R, shard: &RwLock<S>, query: &Q, loader: F) -> Result<Result<V, E>, Refusal>
+where
+    L::RequestState: Drop,
     requires stands { StandsForGiven (Q.to_key_gives query.now) (Q.equivalent query.now) }
     requires loader { F.pre loader }
     // What it gives fits each key that the query becomes, and so do the clones of what fits.
@@ -113,6 +115,8 @@ pub fn get_or_insert_told<
     E: Drop,
     F: FnOnce() -> Result<V, E>,
 >(rt: &R, shard: &RwLock<S>, query: &Q, loader: F) -> Result<Result<Fetched<V>, E>, Refusal>
+where
+    L::RequestState: Drop,
     requires stands { StandsForGiven (Q.to_key_gives query.now) (Q.equivalent query.now) }
     requires loader { F.pre loader }
     // What it gives fits each key that the query becomes, and so do the clones of what fits.
@@ -169,6 +173,8 @@ pub fn keep<
     A: Allocator,
     E: Drop,
 >(guard: PlaceholderGuard<'_, K, V, L, S, R, A>, loaded: Result<V, E>) -> Result<V, E>
+where
+    L::RequestState: Drop,
     requires fits { IfOk loaded (λ value. L.fits guard value) }
     requires clones { ClonesFit L.fits V.is_clone }
     ensures { result ≡ loaded }

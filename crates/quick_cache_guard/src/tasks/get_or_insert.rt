@@ -106,7 +106,10 @@ impl<
     F: Future<Output = Result<V, E>>,
     E: Drop,
     A: Allocator,
-> GetOrInsert<'a, Q, K, V, L, S, R, F, E, A> {
+> GetOrInsert<'a, Q, K, V, L, S, R, F, E, A>
+where
+    L::RequestState: Drop,
+{
     /// A future that has not begun. It takes no lock.
     pub fn new(rt: &'a R, shard: &'a RwLock<S>, query: &'a Q, loader: F) -> Self
         requires stands { StandsForGiven (Q.to_key_gives query.now) (Q.equivalent query.now) }
@@ -243,7 +246,10 @@ impl<
     F: Future<Output = Result<V, E>>,
     E: Drop,
     A: Allocator,
-> Future for GetOrInsert<'a, Q, K, V, L, S, R, F, E, A> {
+> Future for GetOrInsert<'a, Q, K, V, L, S, R, F, E, A>
+where
+    L::RequestState: Drop,
+{
     type Output = Result<Result<V, E>, Refusal>;
 
     // The source of the placeholder, or what the loader waits for.

@@ -43,6 +43,8 @@ impl<
         key: K,
         choose: F,
     ) -> Result<Entered<K, V, T>, Refusal>
+    where
+        L::RequestState: Drop,
         // What it is shown fits an equal key, where clones fit.
         requires callable { (found : Option V) → MayShow L.fits (K.eq key) V.is_clone found
             → F.pre choose found }
@@ -81,6 +83,8 @@ impl<
         key: K,
         loader: F,
     ) -> Result<Result<V, E>, Refusal>
+    where
+        L::RequestState: Drop,
         requires loader { F.pre loader }
         // What the loader gives fits the key.
         requires loads { (value : V) → F.post loader (Ok value) → L.fits key value }

@@ -45,6 +45,8 @@ impl<
         value: V,
         soft: bool,
     ) -> Result<(), (K, V)>
+    where
+        L::RequestState: Drop,
         requires fits { L.fits key value }
         ensures extends { Extends seat.old (Entry.Made seat.old.turn seat.new.turn (shard_of
             B.BuildHasher B.Hasher.Hasher self.now (K.hash_input key)) (Call.Replace key value soft)

@@ -32,6 +32,8 @@ impl<
         rt: &R,
         mut pairs: I,
     ) -> Result<(), (K, V, Refusal, I)>
+    where
+        L::RequestState: Drop,
         requires can { I.can_next pairs }
         requires ends { IsFinite (I.remaining pairs) }
         requires fits { GivesFitting I.next_gives L.fits pairs }

@@ -76,6 +76,8 @@ impl<
         query: &Q,
         loader: F,
     ) -> Result<Result<V, E>, Refusal>
+    where
+        L::RequestState: Drop,
         requires stands { StandsForGiven (Q.to_key_gives query.now) (Q.equivalent query.now) }
         requires loader { F.pre loader }
         // What it gives fits each key that the query becomes, and so do the clones of what fits.
@@ -103,6 +105,8 @@ impl<
         query: &Q,
         loader: F,
     ) -> Result<Result<Fetched<V>, E>, Refusal>
+    where
+        L::RequestState: Drop,
         requires stands { StandsForGiven (Q.to_key_gives query.now) (Q.equivalent query.now) }
         requires loader { F.pre loader }
         // What it gives fits each key that the query becomes, and so do the clones of what fits.

@@ -135,6 +135,7 @@ impl<K: Eq + Hash + Drop, V: Drop, We, B: BuildHasher, L: Lifecycle<K, V>, A: Al
     pub fn set_capacity<R: Wait>(&self, rt: &R, capacity: u64)
     where
         We: Weighter<K, V>,
+        L::RequestState: Drop,
     {
         let part = shard_weight(capacity, self.num_shards());
         for shard in &self.shards {

@@ -46,6 +46,8 @@ impl<
         query: &'a Q,
         loader: F,
     ) -> GetOrInsert<'a, Q, K, V, L, LockedShard<K, V, We, B, L, A>, R, F, E, A>
+    where
+        L::RequestState: Drop,
         requires stands { StandsForGiven (Q.to_key_gives query.now) (Q.equivalent query.now) }
         requires loader { F.can_poll loader }
         // What it gives fits each key that the query becomes, and so do the clones of what fits.

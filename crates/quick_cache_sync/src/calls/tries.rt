@@ -156,6 +156,8 @@ impl<
     ///
     /// As `try_insert_with_lifecycle`.
     pub fn try_insert(&self, key: K, value: V) -> Result<(), (K, V, TryError)>
+    where
+        L::RequestState: Drop,
         requires fits { L.fits key value }
         ensures answers { IsTriedWith (λ answer. FromSome L.Lifecycle K.eq (λ shard.
             InsertsAloneBy ⟦<Self as Ruled>⟧.goes K.eq shard

@@ -32,6 +32,8 @@ impl<
     ///
     /// As `replace_with_lifecycle`.
     pub fn replace<R: Wait>(&self, rt: &R, key: K, value: V, soft: bool) -> Result<(), (K, V)>
+    where
+        L::RequestState: Drop,
         requires fits { L.fits key value }
         ensures answers { FromSome L.Lifecycle K.eq (λ shard.
             ReplacesAloneBy ⟦<Self as Ruled>⟧.goes K.eq shard
