@@ -19,6 +19,8 @@ pub fn put_zero<K: Eq + Hash + Drop, We: Weighter<K, u64>, B: BuildHasher, L: Li
     cache: &mut Cache<K, u64, We, B, L>,
     key: K,
 ) -> Result<(), Refusal>
+where
+    L::RequestState: Drop,
     ensures work { WorksWithin cache.old.state.mark_cut
         (length cache.old.state.hot + length cache.old.state.cold + 1)
         cache.old.work cache.new.work }

@@ -75,6 +75,8 @@ pub fn insert_fitting<
     B: BuildHasher,
     L: Lifecycle<K, V>,
 >(cache: &mut Cache<K, V, We, B, L>, key: K, value: V) -> Result<(), (K, V, Refusal)>
+where
+    L::RequestState: Drop,
     requires fits { L.fits key value }
     ensures stay { AllFit L.fits cache.old.state → AllFit L.fits cache.new.state }
 {

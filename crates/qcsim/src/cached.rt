@@ -18,6 +18,8 @@ fn ask_for<K: Eq + Hash + Copy + Drop, We: Weighter<K, ()>, B: BuildHasher, L: L
     cache: &mut Cache<K, (), We, B, L>,
     key: K,
 ) -> Result<bool, Refusal>
+where
+    L::RequestState: Drop,
     ensures asks { L.steady cache.old.lifecycle → IfOk result (λ found. Simulates
         (rules_in ⟦<Cache<K, (), We, B, L> as Ruled>⟧.goes no_touches cache.old) K.eq cache.old.state (key ∷ []) (counted found) cache.new.state) }
     ensures same_weigher { cache.new.weigher ≡ cache.old.weigher }

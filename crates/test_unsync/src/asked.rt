@@ -68,7 +68,10 @@ fn call<
     B: BuildHasher,
     L: Lifecycle<K, V>,
     A: Allocator,
->(cache: &mut Cache<K, V, We, B, L, A>, ask: &Ask<K, V>) -> Said<K, V> {
+>(cache: &mut Cache<K, V, We, B, L, A>, ask: &Ask<K, V>) -> Said<K, V>
+where
+    L::RequestState: Drop,
+{
     match *ask {
         Ask::Insert(key, value) => match cache.insert(key, value) {
             Ok(()) => Said::Done,

@@ -19,6 +19,8 @@ pub fn put_or_leave<
     B: BuildHasher,
     L: Lifecycle<K, V>,
 >(cache: &mut Cache<K, V, We, B, L>, key: K, value: V) -> Result<(), Refusal>
+where
+    L::RequestState: Drop,
     ensures { OnErr result (cache.new.state ≡ cache.old.state) }
 {
     cache.put(key, value)
@@ -46,6 +48,8 @@ pub fn load_absent<
     E,
     F: FnOnce() -> Result<V, E>,
 >(cache: &mut Cache<K, V, We, B, L>, query: &Q, loader: F) -> Result<V, LoadError<E>>
+where
+    L::RequestState: Drop,
     requires stands { StandsForGiven (Q.to_key_gives query.now) (Q.equivalent query.now) }
     requires loader { F.pre loader }
     requires absent { HasNoItem (Q.equivalent query.now) cache.old.state }
@@ -65,6 +69,8 @@ pub fn load_or_miss<
     E,
     F: FnOnce() -> Result<V, E>,
 >(cache: &mut Cache<K, V, We, B, L>, query: &Q, loader: F) -> Result<Result<bool, E>, Refusal>
+where
+    L::RequestState: Drop,
     requires stands { StandsForGiven (Q.to_key_gives query.now) (Q.equivalent query.now) }
     requires loader { F.pre loader }
     ensures { IfOk result (λ ended. ended ≡ Ok false
@@ -84,6 +90,8 @@ pub fn is_not_lent<
     E: Drop,
     F: FnOnce() -> Result<V, E>,
 >(cache: &mut Cache<K, V, We, B, L>, query: &Q, loader: F) -> bool
+where
+    L::RequestState: Drop,
     requires stands { StandsForGiven (Q.to_key_gives query.now) (Q.equivalent query.now) }
     requires loader { F.pre loader }
     ensures { result ≡ true → HasNoItem (Q.equivalent query.now) cache.new.state }
@@ -107,6 +115,8 @@ pub fn is_not_lent_to_write<
     E: Drop,
     F: FnOnce() -> Result<V, E>,
 >(cache: &mut Cache<K, V, We, B, L>, query: &Q, loader: F) -> bool
+where
+    L::RequestState: Drop,
     requires stands { StandsForGiven (Q.to_key_gives query.now) (Q.equivalent query.now) }
     requires loader { F.pre loader }
     ensures { result ≡ true → HasNoItem (Q.equivalent query.now) cache.new.state }
@@ -128,6 +138,8 @@ pub fn fail_to_load<
     L: Lifecycle<K, V>,
     Q: ToKey<K>,
 >(cache: &mut Cache<K, V, We, B, L>, query: &Q) -> Result<Result<bool, ()>, Refusal>
+where
+    L::RequestState: Drop,
     requires stands { StandsForGiven (Q.to_key_gives query.now) (Q.equivalent query.now) }
     requires absent { HasNoKey (Q.equivalent query.now) cache.old.state }
     ensures { length cache.new.state.loading ≤ length cache.old.state.loading }
@@ -143,6 +155,8 @@ pub fn fill_alone<
     B: BuildHasher,
     L: Lifecycle<K, V>,
 >(guard: Guard<'_, K, V, We, B, L>, value: V)
+where
+    L::RequestState: Drop,
     ensures { IsDoneAlone L.RequestState.is_default
         (FillsIfThereBy ⟦<Cache<K, V, We, B, L> as Ruled>⟧.goes no_touches
         guard.entry.cache.now guard.entry.ticket value guard.exit.0.now) }

@@ -18,6 +18,8 @@ pub fn fill_or_take_back<
     L: Lifecycle<K, V>,
     I: Iterator<Item = (K, V)> + Drop,
 >(cache: &mut Cache<K, V, We, B, L>, pairs: I) -> Result<(), (K, V, Refusal, I)>
+where
+    L::RequestState: Drop,
     requires can { I.can_next pairs }
     requires ends { IsFinite (I.remaining pairs) }
     ensures all { OnOk result ((came : List (K × V)) × Drains I.next_gives pairs came) }

@@ -75,6 +75,8 @@ pub fn insert_or_take_back<
     B: BuildHasher,
     L: Lifecycle<K, V>,
 >(cache: &mut Cache<K, V, We, B, L>, key: K, value: V) -> Result<(), (K, V, Refusal)>
+where
+    L::RequestState: Drop,
     ensures key { IfErr result (λ back. back.0 ≡ key) }
     ensures value { IfErr result (λ back. back.1 ≡ value) }
     ensures same { OnErr result (cache.new.state ≡ cache.old.state) }
@@ -90,6 +92,8 @@ pub fn insert_in_room<
     B: BuildHasher,
     L: Lifecycle<K, V>,
 >(cache: &mut Cache<K, V, We, B, L>, key: K, value: V) -> Result<bool, Refusal>
+where
+    L::RequestState: Drop,
     requires slot { slots_taken cache.old.state < slot_count }
     ensures { IfOk result (λ for_memory. for_memory ≡ false) }
 {
@@ -168,6 +172,8 @@ pub fn set_and_tell<
     B: BuildHasher,
     L: Lifecycle<K, V>,
 >(cache: &mut Cache<K, V, We, B, L>, capacity: u64) -> u64
+where
+    L::RequestState: Drop,
     ensures { result ≡ capacity }
 {
     cache.set_capacity(capacity);
@@ -198,6 +204,8 @@ pub fn replace_and_mark<
     B: BuildHasher,
     L: Lifecycle<K, V>,
 >(cache: &mut Cache<K, V, We, B, L>, key: K, value: V) -> Result<(), (K, V)>
+where
+    L::RequestState: Drop,
     ensures marks { IsDoneAlone L.RequestState.is_default
         (ReplacesBy ⟦<Cache<K, V, We, B, L> as Ruled>⟧.goes no_touches cache.old K.eq false key
         value result cache.new) }

@@ -33,6 +33,8 @@ pub fn load_in_room<
     E: Drop,
     F: FnOnce() -> Result<V, E> + Drop,
 >(cache: &mut Cache<K, V, We, B, L>, query: &Q, loader: F) -> Result<bool, Refusal>
+where
+    L::RequestState: Drop,
     requires stands { StandsForGiven (Q.to_key_gives query.now) (Q.equivalent query.now) }
     requires loader { F.pre loader }
     requires key { Q.to_key_is_infallible query.now }

@@ -25,6 +25,8 @@ pub fn fill_or_take_back<
     S: LoadingShard<K, V, L, Global>,
     R: Wait,
 >(guard: PlaceholderGuard<'_, K, V, L, S, R>, value: V) -> Result<(), V>
+where
+    L::RequestState: Drop,
     requires fits { L.fits guard value }
     requires clones { ClonesFit L.fits V.is_clone }
     ensures told { OnOk result

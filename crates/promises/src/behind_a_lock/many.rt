@@ -23,6 +23,8 @@ pub fn fill_or_take_back<
     I: Iterator<Item = (K, V)> + Drop,
     R: Wait,
 >(cache: &Cache<K, V, We, B, L>, rt: &R, pairs: I) -> Result<(), (K, V, Refusal, I)>
+where
+    L::RequestState: Drop,
     requires can { I.can_next pairs }
     requires ends { IsFinite (I.remaining pairs) }
     requires fits { GivesFitting I.next_gives L.fits pairs }

@@ -34,6 +34,8 @@ pub fn write_to_its_shard<
     key: K,
     value: V,
 ) -> Result<(), (K, V, Refusal)>
+where
+    L::RequestState: Drop,
     requires fits { L.fits key value }
     ensures { OnOk result (Extends seat.old (Entry.Made seat.old.turn seat.new.turn
         (shard_of_hash cache.now.shards
@@ -108,6 +110,8 @@ pub fn load_into_its_shard<
     key: K,
     value: V,
 ) -> Result<V, Refusal>
+where
+    L::RequestState: Drop,
     requires fits { L.fits key value }
     ensures { IfOk result (λ given. Gives ⟦<Recorded<K, V, We, B, L, J> as Ruled>⟧.goes
         L.RequestState.is_default K.eq V.is_clone (shard_of_hash cache.now.shards

@@ -95,6 +95,8 @@ pub fn put_or_tell_why<
     L: Lifecycle<K, V>,
     R: Wait,
 >(rt: &R, cache: &Cache<K, V, We, B, L>, key: K, value: V) -> Result<(), Refusal>
+where
+    L::RequestState: Drop,
     requires fits { L.fits key value }
     ensures why { IfErr result (λ refusal. refusal ≡ Refusal.Memory ⊎ refusal ≡ Refusal.SlotsFull) }
 {
