@@ -127,7 +127,10 @@ pub(crate) fn answers<
     B: BuildHasher,
     L: Lifecycle<K, V>,
     A: Allocator,
->(rt: &impl Abort, cache: &mut Cache<K, V, We, B, L, A>, row: &[(Ask<K, V>, Said<K, V>)]) {
+>(rt: &impl Abort, cache: &mut Cache<K, V, We, B, L, A>, row: &[(Ask<K, V>, Said<K, V>)])
+where
+    L::RequestState: Drop,
+{
     for (at, (ask, said)) in row.iter().enumerate() {
         expect_eq!(rt; (at, call(cache, ask) == *said), (at, true));
     }
@@ -138,7 +141,10 @@ pub(crate) fn inserts<We: Weighter<u64, u64>, B: BuildHasher, L: Lifecycle<u64, 
     rt: &impl Abort,
     cache: &mut Cache<u64, u64, We, B, L, A>,
     numbers: Range<u64>,
-) {
+)
+where
+    L::RequestState: Drop,
+{
     for number in numbers {
         answers(rt, cache, &[(Ask::Insert(number, number), Said::Done)]);
     }
