@@ -43,6 +43,8 @@ fn ask_for_all<
     B: BuildHasher,
     L: Lifecycle<K, ()>,
 >(cache: &mut Cache<K, (), We, B, L>, keys: &[K]) -> Result<u64, Refusal>
+where
+    L::RequestState: Drop,
     ensures asks { L.steady cache.old.lifecycle → IfOk result (λ hits. Simulates
         (rules_in ⟦<Cache<K, (), We, B, L> as Ruled>⟧.goes no_touches cache.old) K.eq cache.old.state keys.now hits cache.new.state) }
 {
