@@ -5,7 +5,7 @@ use Rattle.quick_cache_loading.specs.declared.waiting.waited.Waited.{Waited}
 use Rattle.quick_cache_loading.specs.Waiters.{IsTold}
 use Rattle.quick_cache_model.specs.declared.refusal.Refusal.{Refusal}
 use Rattle.quick_cache_guard.specs.Answers.{GivesSo, HasCause, IsAnswered, IsRefusedSo, answer_of, is_timeout, output_of}
-use Rattle.quick_cache_guard.specs.Entries.{CameSo, HasEntryCause, entry_of}
+use Rattle.quick_cache_guard.specs.Entries.{JoinedSo, HasEntryCause, entry_of}
 use Rattle.quick_cache_guard.specs.declared.results.EntryResult.{EntryResult}
 use Rattle.quick_cache_guard.specs.declared.results.GuardResult.{GuardResult}
 
@@ -36,25 +36,15 @@ module _ {V S : Type 0} (refuses : Refusal → S → Type 0) where
   entry_told_so T WasTold key Waited.Timeout is = is
   entry_told_so T WasTold key Waited.Again is = tt
 
-  -- one who came, and is told no value, looks again only where it was told so
-  pub entry_came : (T : Type 0) {K : Type 0} (WasTold : Waited V → Type 0) (ticket : ℕ) (key : K)
-      (told : Waited V) → IsTold ticket (λ value. ⊥) told → WasTold told
-      → CameSo WasTold refuses {W = Unit {0}} {T = T} {K = K} (Err (entry_of (answer_of key told)))
-  entry_came T WasTold ticket key (Waited.Value value) none is = absurd none
-  entry_came T WasTold ticket key (Waited.Guard share) none is = tt
-  entry_came T WasTold ticket key (Waited.Refused why) none is = inr (inr is)
-  entry_came T WasTold ticket key Waited.Timeout none is = is
-  entry_came T WasTold ticket key Waited.Again none is = is
-
-  pub entry_came_so : {T K G : Type 0} (Came WasTold : Waited V → Type 0)
+  pub entry_joined_so : {T K G : Type 0} (Came WasTold : Waited V → Type 0)
       → ((told : Waited V) → Came told → WasTold told) → (answer : EntryResult T K V G)
       → HasEntryCause Came refuses answer → HasEntryCause WasTold refuses answer
-  entry_came_so Came WasTold was (EntryResult.Retained told) is = tt
-  entry_came_so Came WasTold was (EntryResult.Removed key value) is = tt
-  entry_came_so Came WasTold was (EntryResult.Replaced guard value) is = tt
-  entry_came_so Came WasTold was (EntryResult.Vacant guard) is = tt
-  entry_came_so Came WasTold was EntryResult.Timeout is = was Waited.Timeout is
-  entry_came_so Came WasTold was (EntryResult.Refused why) is = refused_so Came WasTold was why is
+  entry_joined_so Came WasTold was (EntryResult.Retained told) is = tt
+  entry_joined_so Came WasTold was (EntryResult.Removed key value) is = tt
+  entry_joined_so Came WasTold was (EntryResult.Replaced guard value) is = tt
+  entry_joined_so Came WasTold was (EntryResult.Vacant guard) is = tt
+  entry_joined_so Came WasTold was EntryResult.Timeout is = was Waited.Timeout is
+  entry_joined_so Came WasTold was (EntryResult.Refused why) is = refused_so Came WasTold was why is
 
 module _ {V S : Type 0} (shows : V → S → Type 0) (refuses : Refusal → S → Type 0) where
   -- one answers as one is told
@@ -67,17 +57,28 @@ module _ {V S : Type 0} (shows : V → S → Type 0) (refuses : Refusal → S �
   told_so WasTold key Waited.Again is = is
 
   -- what has its cause by what one was told as one came has it by what one was told at all
-  pub came_so : {G : Type 0} (Came WasTold : Waited V → Type 0)
+  pub joined_so : {G : Type 0} (Came WasTold : Waited V → Type 0)
       → ((told : Waited V) → Came told → WasTold told) → (told : Option (GuardResult V G))
       → HasCause Came shows refuses told → HasCause WasTold shows refuses told
-  came_so Came WasTold was None is = was Waited.Again is
-  came_so Came WasTold was (Some (GuardResult.Value value)) (inl shown) = inl shown
-  came_so Came WasTold was (Some (GuardResult.Value value)) (inr is) =
+  joined_so Came WasTold was None is = was Waited.Again is
+  joined_so Came WasTold was (Some (GuardResult.Value value)) (inl shown) = inl shown
+  joined_so Came WasTold was (Some (GuardResult.Value value)) (inr is) =
       inr (was (Waited.Value value) is)
-  came_so Came WasTold was (Some (GuardResult.Guard guard)) is = tt
-  came_so Came WasTold was (Some (GuardResult.Refused why)) is =
+  joined_so Came WasTold was (Some (GuardResult.Guard guard)) is = tt
+  joined_so Came WasTold was (Some (GuardResult.Refused why)) is =
       refused_so refuses Came WasTold was why is
-  came_so Came WasTold was (Some GuardResult.Timeout) is = was Waited.Timeout is
+  joined_so Came WasTold was (Some GuardResult.Timeout) is = was Waited.Timeout is
+
+  -- an entry call that joins wants no value, and looks again only where it was told so
+  pub entry_joined : (T : Type 0) {G : Type 0} (WasTold : Waited V → Type 0) (R : G → Type 0)
+      (told : Option (GuardResult V G)) → IfSome told (IsAnswered (λ value. ⊥) R)
+      → HasCause WasTold shows refuses told
+      → JoinedSo WasTold refuses {W = Unit {0}} {T = T} {K = G} (Err (entry_of told))
+  entry_joined T WasTold R None answers is = is
+  entry_joined T WasTold R (Some (GuardResult.Value value)) none is = absurd none
+  entry_joined T WasTold R (Some (GuardResult.Guard guard)) answers is = tt
+  entry_joined T WasTold R (Some (GuardResult.Refused why)) answers is = is
+  entry_joined T WasTold R (Some GuardResult.Timeout) answers is = is
 
   -- with no time limit, one who has no output was told to look again
   pub no_output : {G : Type 0} (WasTold : Waited V → Type 0) (told : Option (GuardResult V G))

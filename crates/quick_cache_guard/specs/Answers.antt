@@ -2,8 +2,8 @@
 use Rattle.std.specs.Prelude.{◌≡◌, ◌⊎◌, ⊤, ℕ, Bool, true, false, Option, Some, None, Result, Ok, Err}
 use Rattle.quick_cache_model.specs.declared.refusal.Refusal.{Refusal}
 pub use Rattle.quick_cache_loading.specs.Waiters.{IsLoadRefusal}
-use Rattle.quick_cache_loading.specs.FromState.{ComesTo, FromState, LooksAt}
-use Rattle.quick_cache_loading.specs.declared.waiting.place.Place.{Place}
+use Rattle.quick_cache_loading.specs.FromState.{JoinsAt, FromState, PollsAt}
+use Rattle.quick_cache_loading.specs.declared.waiting.tokens.Place.{Place}
 use Rattle.quick_cache_loading.specs.declared.waiting.waited.Waited.{Waited}
 use Rattle.quick_cache_loading.specs.declared.waiting.waited.Wants.{Wants}
 use Rattle.quick_cache_guard.specs.declared.results.GuardResult.{GuardResult}
@@ -27,16 +27,16 @@ answer_of key Waited.Timeout = Some GuardResult.Timeout
 answer_of key Waited.Again = None
 
 -- one came to the state of some placeholder, and was told this
-abbrev pub CameTo : {K V : Type 0} → (shows : V → V → Type 0) → (stands_for : K → Bool) → Wants
+abbrev pub ToldOnJoining : {K V : Type 0} → (shows : V → V → Type 0) → (stands_for : K → Bool) → Wants
     → (is_over : Bool) → Waited V → Type 0
-CameTo shows stands_for wants is_over told =
-    (ticket : ℕ) × FromState (ComesTo shows stands_for wants ticket is_over (Err told))
+ToldOnJoining shows stands_for wants is_over told =
+    (ticket : ℕ) × FromState (JoinsAt shows stands_for wants ticket is_over (Err told))
 
 -- it came to the state of some placeholder, or looked at one where it had a place, and was told this
 abbrev pub WasTold : {K V : Type 0} → (shows : V → V → Type 0) → (stands_for : K → Bool) → Wants
     → (is_over : Bool) → Waited V → Type 0
-WasTold shows stands_for wants is_over told = CameTo shows stands_for wants is_over told
-    ⊎ ((place : Place) × FromState (LooksAt shows stands_for wants place is_over (Some told)))
+WasTold shows stands_for wants is_over told = ToldOnJoining shows stands_for wants is_over told
+    ⊎ ((place : Place) × FromState (PollsAt shows stands_for wants place is_over (Some told)))
 
 -- so it was at some time of its waits
 abbrev pub WasToldOnce : {K V : Type 0} → (shows : V → V → Type 0) → (stands_for : K → Bool)
@@ -104,6 +104,11 @@ IsAnswered P R GuardResult.Timeout = ⊤
 abbrev pub is_timeout : {V G : Type 0} → GuardResult V G → Bool
 is_timeout GuardResult.Timeout = true
 is_timeout _ = false
+
+-- one is refused
+abbrev pub is_refused : {V G : Type 0} → GuardResult V G → Bool
+is_refused (GuardResult.Refused refusal) = true
+is_refused _ = false
 
 -- a future is refused only for what a load may be refused for
 abbrev pub IsRefusedAsLoad : {V G : Type 0} → Result (Result V G) Refusal → Type 0

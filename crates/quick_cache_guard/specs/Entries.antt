@@ -60,10 +60,10 @@ module _ {V S : Type 0} (WasTold : Waited V → Type 0) (refuses : Refusal → S
   HasEntryCause _ = ⊤
 
   -- the same of one who came to the shard
-  abbrev pub CameSo : {W T K G : Type 0} → Result W (Option (EntryResult T K V G)) → Type 0
-  CameSo (Ok waiting) = ⊤
-  CameSo (Err None) = WasTold Waited.Again
-  CameSo (Err (Some answer)) = HasEntryCause answer
+  abbrev pub JoinedSo : {W T K G : Type 0} → Result W (Option (EntryResult T K V G)) → Type 0
+  JoinedSo (Ok waiting) = ⊤
+  JoinedSo (Err None) = WasTold Waited.Again
+  JoinedSo (Err (Some answer)) = HasEntryCause answer
 
 -- where the callback was not called, this is true: where one waits, looks again, is too late, or gets
 -- the right to load a key that has no entry

@@ -4,4 +4,4 @@ pub mod Futures
 pub mod Loaders
 pub mod Acts
 pub mod Entries
-pub mod Entering
+pub mod EntryFutures

@@ -1,10 +1,15 @@
 -- What a contract sees of a future that loads.
 use Rattle.std.specs.Prelude.{◌≡◌, ◌⊎◌, ⊤, Bool, true, false, ℕ, Option, None, IsSome, Result, Ok, Err}
+use Rattle.futures.specs.Poll.{IfReady, OnPending}
+use Rattle.futures.specs.declared.task.Poll.{Poll}
+use Rattle.futures.specs.declared.task.context.Context.{Context}
 use Rattle.quick_cache_model.specs.declared.refusal.Refusal.{Refusal}
 use Rattle.quick_cache_loading.specs.declared.waiting.waited.Waited.{Waited}
-use Rattle.quick_cache_guard.specs.Answers.{IsGivenSo, IsRefusedSo}
-use Rattle.quick_cache_guard.specs.Futures.{IsSource, Joining}
-use Rattle.quick_cache_guard.specs.declared.tasks.get_or_insert.Loading.{Loading}
+use Rattle.quick_cache_loading.specs.Fitting.{FitsQuery}
+use Rattle.quick_cache_loading.specs.declared.waiting.waited.Wants.{Wants}
+use Rattle.quick_cache_guard.specs.Answers.{IsGivenSo, IsRefusedAsLoad, IsRefusedSo, WasTold}
+use Rattle.quick_cache_guard.specs.Futures.{AnswersOnce, IsSource, Joining, Registers}
+use Rattle.quick_cache_guard.specs.declared.tasks.Loading.{Loading}
 
 -- its query, the source that it waits for before it has the guard, the loader's future, and whether
 -- it has the guard, and whether it has answered
@@ -56,6 +61,13 @@ NeedsOf needs false source loader s = IsSource source s
 abbrev pub HasPlace : {Q F : Type 0} → LoadState Q F → Type 0
 HasPlace state = (state.has_guard ≡ true) ⊎ IsSome state.source
 
+module _ {F K V E : Type 0} (can_poll : F → Type 0) (gives : F → Result V E → Type 0)
+    (fits : K → V → Type 0) (becomes : K → Type 0) where
+  -- the loader's future may be polled, and what it gives fits each key that the query becomes
+  abbrev pub MayLoad : F → Type 0
+  MayLoad loader = can_poll loader × ((value : V) → gives loader (Ok value) → (key : K)
+      → becomes key → fits key value)
+
 -- of a value that is given the one is true, and of an error of the loader's the other
 abbrev pub IfLoaded : {V E : Type 0} → (V → Type 0) → (E → Type 0)
     → Result (Result V E) Refusal → Type 0
@@ -71,3 +83,20 @@ LoadsSo WasTold shows refuses IsLoaded (Ok (Ok value)) =
     IsGivenSo WasTold shows value ⊎ IsLoaded value
 LoadsSo WasTold shows refuses IsLoaded (Ok (Err error)) = ⊤
 LoadsSo WasTold shows refuses IsLoaded (Err refusal) = IsRefusedSo WasTold refuses refusal
+
+-- What a poll does that comes to an answer, or waits: what it gives, with its cause; that it answers
+-- once; where it is woken; and that the loader's future gives afterwards only what it gave before.
+pub record PollsLoad {Q F K V E S : Type 0} (fits : K → V → Type 0) (is_clone : V → V → Type 0)
+    (stands_for : K → Bool) (shows : V → S → Type 0) (refuses : Refusal → S → Type 0)
+    (loads : F → Result V E → Type 0) (needs : F → ℕ → Type 0) (old : LoadState Q F)
+    (polled : Poll (Result (Result V E) Refusal)) (new : LoadState Q F) (before after : Context)
+    : Type 0 where
+  pub gives : IfReady polled (IfLoaded (λ value. FitsQuery fits stands_for value)
+      (λ error. loads old.loader (Err error)))
+  pub cause : IfReady polled (LoadsSo (WasTold is_clone stands_for Wants.Value false) shows refuses
+      (λ value. loads old.loader (Ok value)))
+  pub once : AnswersOnce IsRefusedAsLoad (Err Refusal.Finished) false polled new.is_finished
+  pub registers : Registers (HasPlace new)
+      (NeedsOf needs new.has_guard new.source new.loader) polled before after
+  pub query : new.query ≡ old.query
+  pub loader : OnPending polled ((x : Result V E) → loads new.loader x → loads old.loader x)

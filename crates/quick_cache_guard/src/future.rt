@@ -1,18 +1,14 @@
 //! A value, or the guard of a key that is absent, for a task, which waits without a thread.
 ghost use Rattle.std.specs.Prelude.{◌≡◌, ◌⊎◌, true, false, Some, Err, IsSome, IfSome};
-ghost use Rattle.std.specs.Arc.{arc_value};
 ghost use Rattle.quick_cache_model.specs.Hashing.{StandsForGiven};
 ghost use Rattle.futures.specs.Poll.{IfReady, OnPending};
-ghost use Rattle.quick_cache_guard.specs.Answers.{GivesSo, HasCause, IsAnswered, IsRefusedAsLoad, WasTold, is_timeout};
-ghost use Rattle.quick_cache_guard.specs.Futures.{AnswersOnce, GivesFor, IfWaits, IsSource, Registers, has_answered, source_of};
+ghost use Rattle.quick_cache_guard.specs.Answers.{GivesSo, HasCause, IsAnswered, WasTold, is_timeout};
+ghost use Rattle.quick_cache_guard.specs.Futures.{GivesFor, GivesOnce, IsSource, PollsFor, RegistersAt};
 ghost use Rattle.quick_cache_loading.specs.Fitting.{FitsIfClonesDo};
 ghost use Rattle.quick_cache_loading.specs.declared.waiting.waited.Waited.{Waited};
 
-use crate::coming::{Waiting, answer, come, leave, output};
-use crate::guard::PlaceholderGuard;
-use crate::loads::look;
-use crate::results::GuardResult;
-use crate::stage::Stage;
+use crate::joining::output;
+use crate::{GuardResult, PlaceholderGuard, Waiting};
 use futures::Future;
 use futures::task::{Context, Poll};
 use quick_cache_loading::sharing::LoadingShard;
@@ -24,14 +20,26 @@ use std::marker::Model;
 use std::mem::replace;
 use std::sync::{RwLock, Wait};
 
+/// Where a future stands that waits by a `W`. A poll takes it, and gives it another where the future
+/// does not answer.
+#[derive(Drop)]
+pub enum Stage<W> {
+    /// It looks in the shard.
+    Looks,
+    /// It waits for another's load.
+    Waits(W),
+    /// It has answered.
+    Finished,
+}
+
 /// Gives the value under the query's key, or the right to load it, as `get_value_or_guard` does for
 /// a thread with no time limit.
 ///
 /// It looks under the shard's read lock first. A poll takes the shard's lock and that of a
 /// placeholder's state, and waits for nothing else. One that is pending has left its waker in the
 /// state, or has asked to be polled again. Polled after its answer it is refused as `Finished`.
-/// Dropped, it waits no more; a guard that was on its way to it is handed on, or the placeholder
-/// given up, as by a guard that is dropped.
+/// Dropped, it waits no more.
+#[derive(Drop)]
 pub struct JoinFuture<
     'a,
     'q,
@@ -46,7 +54,7 @@ pub struct JoinFuture<
     rt: &'a R,
     shard: &'a RwLock<S>,
     query: &'q Q,
-    stage: Stage<Waiting<K, V, L, A>>,
+    stage: Stage<Waiting<'a, K, V, L, S, R, A>>,
 }
 
 impl<
@@ -68,35 +76,13 @@ impl<
 
     ghost view = { λ f. record {
       query = f.query.now;
-      source = source_of f.stage (λ waiting. Some (arc_value waiting.placeholder).source.id);
+      source = source_of f.stage (λ waiting. Some (arc_value waiting.load.placeholder).source.id);
       is_finished = has_answered f.stage;
     } };
 
     ghost invariant = { λ f. ((key : K) → Q.to_key_gives f.query.now key
         → Q.equivalent f.query.now key ≡ true)
-        × IfWaits f.stage (λ waiting. Q.to_key_gives f.query.now waiting.key) };
-}
-
-impl<
-    Q: ToKey<K>,
-    K: Eq + Hash + Drop,
-    V: Clone,
-    L: Lifecycle<K, V>,
-    S: LoadingShard<K, V, L, A>,
-    R: Wait,
-    A: Allocator,
-> Drop for JoinFuture<'_, '_, Q, K, V, L, S, R, A> {
-    fn drop(self) {
-        let JoinFuture {
-            rt,
-            shard,
-            query: _,
-            stage,
-        } = self;
-        if let Stage::Waits(waiting) = stage {
-            leave(rt, shard, waiting);
-        }
-    }
+        × IfWaits f.stage (λ waiting. Q.to_key_gives f.query.now waiting.load.key) };
 }
 
 impl<
@@ -125,16 +111,14 @@ impl<
     }
 
     /// A poll, which keeps the query.
-    pub fn go_on(
+    pub fn poll_once(
         &mut self,
         cx: &mut Context<'_>,
     ) -> Poll<Result<Result<V, PlaceholderGuard<'a, K, V, L, S, R, A>>, Refusal>>
         ensures gives { IfReady result (GivesFor L.fits V.is_clone (Q.equivalent self.old.query)
             (Q.to_key_gives self.old.query)) }
-        ensures once { AnswersOnce IsRefusedAsLoad (Err Refusal.Finished) self.old.is_finished
-            result self.new.is_finished }
-        ensures registers { Registers (IsSome self.new.source) (IsSource self.new.source) result
-            cx.old cx.new }
+        ensures once { GivesOnce self.old.is_finished result self.new.is_finished }
+        ensures registers { RegistersAt self.new.source result cx.old cx.new }
         // The answer has its cause: what a placeholder's state told, what a shard showed, or why it
         // refused.
         ensures cause { self.old.is_finished ≡ false → IfReady result (GivesSo
@@ -146,35 +130,25 @@ impl<
         ensures query { self.new.query ≡ self.old.query }
     {
         match replace(&mut self.stage, Stage::Finished) {
-            Stage::Looks => self.look(cx),
+            Stage::Looks => self.join(cx),
             Stage::Waits(waiting) => self.wait(waiting, cx),
             Stage::Finished => Poll::Ready(Err(Refusal::Finished)),
         }
     }
 
     /// Looks in the shard, and waits where another loads the key.
-    fn look(
+    fn join(
         &mut self,
         cx: &mut Context<'_>,
     ) -> Poll<Result<Result<V, PlaceholderGuard<'a, K, V, L, S, R, A>>, Refusal>>
         requires taken { self.old.is_finished ≡ true }
-        ensures gives { IfReady result (GivesFor L.fits V.is_clone (Q.equivalent self.old.query)
-            (Q.to_key_gives self.old.query)) }
-        ensures once { AnswersOnce IsRefusedAsLoad (Err Refusal.Finished) false result
-            self.new.is_finished }
-        ensures registers { Registers (IsSome self.new.source) (IsSource self.new.source) result
-            cx.old cx.new }
-        ensures cause { IfReady result (GivesSo
-            (WasTold V.is_clone (Q.equivalent self.old.query) Wants.Value false)
-            (S.shows (Q.equivalent self.old.query)) (S.refuses (Q.equivalent self.old.query))) }
-        // One that stands nowhere was told to look again.
-        ensures again { OnPending result (IsSome self.new.source
-            ⊎ WasTold V.is_clone (Q.equivalent self.old.query) Wants.Value false Waited.Again) }
-        ensures query { self.new.query ≡ self.old.query }
+        ensures { PollsFor L.fits V.is_clone (Q.equivalent self.old.query) (Q.to_key_gives self.old.query)
+            (S.shows (Q.equivalent self.old.query)) (S.refuses (Q.equivalent self.old.query))
+            self.old result self.new cx.old cx.new }
     {
-        match look(self.rt, self.shard, self.query) {
+        match PlaceholderGuard::find(self.rt, self.shard, self.query) {
             Ok(Some(value)) => Poll::Ready(Ok(Ok(value))),
-            Ok(None) => match come(self.rt, self.shard, self.query, false) {
+            Ok(None) => match PlaceholderGuard::join_once(self.rt, self.shard, self.query, false) {
                 Ok(waiting) => self.wait(waiting, cx),
                 Err(told) => self.give(told, cx),
             },
@@ -185,43 +159,21 @@ impl<
     /// Looks whether the guard or the value has come to the waiter, which waits on where neither has.
     fn wait(
         &mut self,
-        waiting: Waiting<K, V, L, A>,
+        waiting: Waiting<'a, K, V, L, S, R, A>,
         cx: &mut Context<'_>,
     ) -> Poll<Result<Result<V, PlaceholderGuard<'a, K, V, L, S, R, A>>, Refusal>>
         requires taken { self.old.is_finished ≡ true }
-        requires keyed { Q.to_key_gives self.old.query waiting.key }
-        ensures gives { IfReady result (GivesFor L.fits V.is_clone (Q.equivalent self.old.query)
-            (Q.to_key_gives self.old.query)) }
-        ensures once { AnswersOnce IsRefusedAsLoad (Err Refusal.Finished) false result
-            self.new.is_finished }
-        ensures registers { Registers (IsSome self.new.source) (IsSource self.new.source) result
-            cx.old cx.new }
-        ensures cause { IfReady result (GivesSo
-            (WasTold V.is_clone (Q.equivalent self.old.query) Wants.Value false)
-            (S.shows (Q.equivalent self.old.query)) (S.refuses (Q.equivalent self.old.query))) }
-        // One that stands nowhere was told to look again.
-        ensures again { OnPending result (IsSome self.new.source
-            ⊎ WasTold V.is_clone (Q.equivalent self.old.query) Wants.Value false Waited.Again) }
-        ensures query { self.new.query ≡ self.old.query }
+        requires keyed { Q.to_key_gives self.old.query waiting.load.key }
+        ensures { PollsFor L.fits V.is_clone (Q.equivalent self.old.query) (Q.to_key_gives self.old.query)
+            (S.shows (Q.equivalent self.old.query)) (S.refuses (Q.equivalent self.old.query))
+            self.old result self.new cx.old cx.new }
     {
-        let Waiting {
-            placeholder,
-            place,
-            key,
-        } = waiting;
-        match placeholder.poll(self.rt, place, self.query, Wants::Value, cx) {
-            Err(place) => {
-                self.stand(Stage::Waits(Waiting {
-                    placeholder,
-                    place,
-                    key,
-                }));
+        match waiting.poll(self.query, Wants::Value, cx) {
+            Err(waiting) => {
+                self.stage = Stage::Waits(waiting);
                 Poll::Pending
             }
-            Ok(told) => {
-                let told = answer(self.rt, self.shard, placeholder, key, told);
-                self.give(told, cx)
-            }
+            Ok(told) => self.give(told, cx),
         }
     }
 
@@ -239,39 +191,15 @@ impl<
             (WasTold V.is_clone (Q.equivalent self.old.query) Wants.Value false)
             (S.shows (Q.equivalent self.old.query)) (S.refuses (Q.equivalent self.old.query)) told }
         requires timely { IfSome told (λ answer. is_timeout answer ≡ false) }
-        ensures gives { IfReady result (GivesFor L.fits V.is_clone (Q.equivalent self.old.query)
-            (Q.to_key_gives self.old.query)) }
-        ensures once { AnswersOnce IsRefusedAsLoad (Err Refusal.Finished) false result
-            self.new.is_finished }
-        ensures registers { Registers (IsSome self.new.source) (IsSource self.new.source) result
-            cx.old cx.new }
-        ensures cause { IfReady result (GivesSo
-            (WasTold V.is_clone (Q.equivalent self.old.query) Wants.Value false)
-            (S.shows (Q.equivalent self.old.query)) (S.refuses (Q.equivalent self.old.query))) }
-        // One that stands nowhere was told to look again.
-        ensures again { OnPending result (IsSome self.new.source
-            ⊎ WasTold V.is_clone (Q.equivalent self.old.query) Wants.Value false Waited.Again) }
-        ensures query { self.new.query ≡ self.old.query }
+        ensures { PollsFor L.fits V.is_clone (Q.equivalent self.old.query) (Q.to_key_gives self.old.query)
+            (S.shows (Q.equivalent self.old.query)) (S.refuses (Q.equivalent self.old.query))
+            self.old result self.new cx.old cx.new }
     {
         let Some(output) = output(told) else {
-            self.stand(Stage::Looks);
+            self.stage = Stage::Looks;
             return cx.yield_now();
         };
         Poll::Ready(output)
-    }
-
-    /// Stands there until the next poll. Its stage was taken.
-    fn stand(&mut self, stage: Stage<Waiting<K, V, L, A>>)
-        requires taken { self.old.is_finished ≡ true }
-        requires keyed { IfWaits stage (λ waiting. Q.to_key_gives self.old.query waiting.key) }
-        ensures { self.new ≡ record self.old {
-          source = source_of stage (λ waiting. Some (arc_value waiting.placeholder).source.id);
-          is_finished = has_answered stage;
-        } }
-    {
-        if let Stage::Waits(_other) = replace(&mut self.stage, stage) {
-            unreachable!()
-        }
     }
 }
 
@@ -296,6 +224,6 @@ impl<
         (Q.to_key_gives f.query) };
 
     fn poll(&mut self, cx: &mut Context<'_>) -> Poll<Self::Output> {
-        self.go_on(cx)
+        self.poll_once(cx)
     }
 }

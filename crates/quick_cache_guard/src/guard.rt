@@ -1,6 +1,5 @@
 //! The right to load a key.
 ghost use Rattle.std.specs.Prelude.{◌≡◌, IfErr, OnOk, OnErr, Some, codes, is_some, true};
-ghost use Rattle.std.specs.Arc.{arc_value};
 ghost use Rattle.quick_cache_loading.specs.Fitting.{ClonesFit};
 ghost use Rattle.quick_cache_guard.specs.Fills.{FilledAlone, FilledBy, IfBack, IsGoneSo, back_of};
 
@@ -14,6 +13,23 @@ use std::hash::Hash;
 use std::marker::Model;
 use std::sync::{Arc, RwLock, Wait};
 
+/// A load of a key in a shard, by its placeholder, with its own copy of the key.
+#[derive(Drop)]
+pub struct Load<
+    'a,
+    K: Eq + Hash + Drop,
+    V: Clone,
+    L: Lifecycle<K, V>,
+    S: LoadingShard<K, V, L, A>,
+    R: Wait,
+    A: Allocator,
+> {
+    pub rt: &'a R,
+    pub shard: &'a RwLock<S>,
+    pub placeholder: Arc<Placeholder<K, V, L, A>, A>,
+    pub key: K,
+}
+
 /// The right to fill the placeholder of a key. Dropped, it goes to the one who came last of those
 /// who wait, or the placeholder is given up. Contracts see it as its own copy of the key.
 pub struct PlaceholderGuard<
@@ -25,11 +41,8 @@ pub struct PlaceholderGuard<
     R: Wait,
     A: Allocator = Global,
 > {
-    rt: &'a R,
-    shard: &'a RwLock<S>,
-    placeholder: Arc<Placeholder<K, V, L, A>, A>,
-    key: K,
-    share: Share,
+    pub(crate) load: Load<'a, K, V, L, S, R, A>,
+    pub(crate) share: Share,
 }
 
 impl<
@@ -42,14 +55,13 @@ impl<
     A: Allocator,
 > Model for PlaceholderGuard<'a, K, V, L, S, R, A> {
     ghost use Rattle.std.specs.Prelude.{◌≡◌};
+    ghost use Rattle.std.specs.Arc.{arc_value};
 
     ghost Value = { K };
 
-    ghost view = { λ guard. guard.key };
+    ghost view = { λ guard. guard.load.key };
 
-    ghost use Rattle.std.specs.Arc.{arc_value};
-
-    ghost invariant = { λ guard. guard.share ≡ (arc_value guard.placeholder).ticket };
+    ghost invariant = { λ guard. guard.share ≡ (arc_value guard.load.placeholder).ticket };
 }
 
 /// Why a value did not stay, where `G` is the guard that was to put it in.
@@ -85,15 +97,10 @@ impl<
     A: Allocator,
 > Drop for PlaceholderGuard<'_, K, V, L, S, R, A> {
     fn drop(self) {
-        let PlaceholderGuard {
-            rt,
-            shard,
-            placeholder,
-            key: _key,
-            share,
-        } = self;
-        if let Err(share) = placeholder.hand_on(rt, share) {
-            placeholder.give_up(rt, &mut *shard.write(rt), share);
+        let PlaceholderGuard { load, share } = self;
+        if let Err(share) = load.placeholder.hand_on(load.rt, share) {
+            load.placeholder
+                .give_up(load.rt, &mut *load.shard.write(load.rt), share);
         }
     }
 }
@@ -120,37 +127,21 @@ impl<
         ensures key { result ≡ key }
     {
         match placeholder.into_placeholder() {
-            Some(placeholder) => Self::by_share(rt, shard, placeholder, key, share),
+            Some(placeholder) => {
+                let load = Load {
+                    rt,
+                    shard,
+                    placeholder,
+                    key,
+                };
+                PlaceholderGuard { load, share }
+            }
             None => unreachable!(),
         }
     }
 
-    /// The same, of the placeholder itself.
-    pub(crate) fn by_share(
-        rt: &'a R,
-        shard: &'a RwLock<S>,
-        placeholder: Arc<Placeholder<K, V, L, A>, A>,
-        key: K,
-        share: Share,
-    ) -> Self
-        requires share { share ≡ (arc_value placeholder).ticket }
-        ensures key { result ≡ key }
-    {
-        PlaceholderGuard {
-            rt,
-            shard,
-            placeholder,
-            key,
-            share,
-        }
-    }
-
-    /// Gives the value to those who wait, and then puts it in, with a request state of its own. One
-    /// that is too heavy is told to the cold hook, and the answer is `Ok`.
-    ///
-    /// # Errors
-    ///
-    /// As `insert_with_lifecycle`.
+    /// As `insert_with_lifecycle`, with a request state of its own. A value that is too heavy is told
+    /// to the cold hook, and the answer is `Ok`.
     pub fn insert(self, value: V) -> Result<(), FillError<V, Self>>
     where
         L::RequestState: Drop,
@@ -181,7 +172,6 @@ impl<
         requires fits { L.fits self value }
         requires clones { ClonesFit L.fits V.is_clone }
         ensures back { IfErr result (λ error. back_of error ≡ value) }
-        // It is gone only where there was no placeholder for it.
         ensures gone { IfErr result (IsGoneSo S.lacks self.entry) }
         // Where memory was refused the guard comes back, and wherever it fails no hook was called.
         ensures guard { IfErr result (λ error. IfBack error (λ guard. guard ≡ self.entry)) }
@@ -192,28 +182,18 @@ impl<
             Ok(copy) => copy,
             Err(_) => return Err(FillError::Memory(self, value)),
         };
-        let PlaceholderGuard {
-            rt,
-            shard,
-            placeholder,
-            key,
-            share,
-        } = self;
-        let filled = match placeholder.fill(rt, &key, share, copy) {
+        let PlaceholderGuard { load, share } = self;
+        let filled = match load.placeholder.fill(load.rt, &load.key, share, copy) {
             Ok(filled) => filled,
             Err((share, _)) => {
-                drop(PlaceholderGuard {
-                    rt,
-                    shard,
-                    placeholder,
-                    key,
-                    share,
-                });
+                drop(PlaceholderGuard { load, share });
                 return Err(FillError::Gone(value));
             }
         };
-        let named = SharedPlaceholder::named(&placeholder);
-        let put = filled.settle(&mut *shard.write(rt), &named, &key, value, state);
+        let named = SharedPlaceholder::named(&load.placeholder);
+        let mut locked = load.shard.write(load.rt);
+        let put = filled.settle(&mut *locked, &named, &load.key, value, state);
+        drop(locked);
         match put {
             Ok(()) => Ok(()),
             Err(value) => Err(FillError::Gone(value)),
@@ -221,8 +201,7 @@ impl<
     }
 
     /// Gives the guard to the one who came last of those who wait. Where nobody waits, it takes the
-    /// shard's lock, looks again whether anyone waits, and takes the placeholder out if not. What it
-    /// does to the placeholder is said on `State::abandon`. A dropped guard does the same.
+    /// placeholder out, under the shard's lock. A dropped guard does the same.
     pub fn abandon(self) {
         drop(self);
     }

@@ -1,4 +1,4 @@
-pub mod EnterLemmas
+pub mod JoinLemmas
 mod SlotLemmas
 mod TaskLemmas
 mod WithdrawalLemmas

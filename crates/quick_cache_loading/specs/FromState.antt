@@ -3,11 +3,11 @@ use Rattle.std.specs.Prelude.{◌≡◌, ◌≢◌, ◌⊎◌, ◌==◌, ℕ, Bo
 use Rattle.quick_cache_loading.specs.Core.{held_count, waiters_of}
 use Rattle.quick_cache_loading.specs.LoadingStep.{LoadingStep}
 use Rattle.quick_cache_loading.specs.LettingGo.{LetsGo}
-use Rattle.quick_cache_loading.specs.Waiters.{Looks, WaitingState, has_ended, look_event}
-use Rattle.quick_cache_loading.specs.Entering.{Enters}
+use Rattle.quick_cache_loading.specs.Waiters.{Polls, WaitingState, has_ended, poll_event}
+use Rattle.quick_cache_loading.specs.Joining.{BeginsOrJoins}
 use Rattle.quick_cache_loading.specs.declared.protocol.events.Event.{Event}
 use Rattle.quick_cache_loading.specs.declared.protocol.events.Answer.{Answer}
-use Rattle.quick_cache_loading.specs.declared.waiting.place.Place.{Place}
+use Rattle.quick_cache_loading.specs.declared.waiting.tokens.Place.{Place}
 use Rattle.quick_cache_loading.specs.declared.waiting.tasks.Slot.{Slot}
 use Rattle.quick_cache_loading.specs.declared.waiting.waited.Waited.{Waited}
 use Rattle.quick_cache_loading.specs.declared.waiting.waited.Wants.{Wants}
@@ -22,22 +22,22 @@ pub record FromState {K V : Type 0} (P : (old new : WaitingState K V) → Type 0
 module _ {K V : Type 0} (shows : V → V → Type 0) (stands_for : K → Bool) (wants : Wants) where
   -- One comes to the state of this ticket. Where the state is of another, or the value has come and
   -- none is wanted, it looks in the shard again.
-  pub record ComesTo (ticket : ℕ) (is_over : Bool) (told : Result ℕ (Waited V))
+  pub record JoinsAt (ticket : ℕ) (is_over : Bool) (told : Result ℕ (Waited V))
       (old new : WaitingState K V) : Type 0 where
     pub elsewhere : old.ticket ≢ ticket → told ≡ Err Waited.Again
     pub ended : has_ended wants old.core.life ≡ true → told ≡ Err Waited.Again
     pub enters : old.ticket ≡ ticket → has_ended wants old.core.life ≡ false
-        → Enters shows (stands_for old.key) old.next is_over old.core told new.core
+        → BeginsOrJoins shows (stands_for old.key) old.next is_over old.core told new.core
 
   -- One who has this place looks at the state. Where the state is of another ticket, or the value
   -- has come and none is wanted, it looks in the shard again.
-  pub record LooksAt (place : Place) (is_over : Bool) (told : Option (Waited V))
+  pub record PollsAt (place : Place) (is_over : Bool) (told : Option (Waited V))
       (old new : WaitingState K V) : Type 0 where
     pub elsewhere : place.ticket ≢ old.ticket → told ≡ Some Waited.Again
     pub ended : place.ticket ≡ old.ticket → has_ended wants old.core.life ≡ true
         → told ≡ Some Waited.Again
     pub looks : place.ticket ≡ old.ticket → has_ended wants old.core.life ≡ false
-        → Looks shows (stands_for old.key) old.core (look_event place.number is_over) told new.core
+        → Polls shows (stands_for old.key) old.core (poll_event place.number is_over) told new.core
 
 -- the share or the key is of another state, or no guard is held
 abbrev pub MayNotFill : {K V : Type 0} → (key : K) → (share : ℕ) → WaitingState K V → Type 0

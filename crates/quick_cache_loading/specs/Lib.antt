@@ -8,7 +8,7 @@ pub mod LoadingRun
 pub mod Tasks
 pub mod Fitting
 pub mod Waiters
-pub mod Entering
+pub mod Joining
 pub mod LettingGo
 pub mod FromState
 pub mod Begins

@@ -1,6 +1,7 @@
 -- The words of the laws that each event of the loading core keeps: what an answer gives, shows and
 -- lets go.
-use Rattle.std.specs.Prelude.{ℕ, ◌==◌, Bool, true, false, not, ◌&&◌, ◌||◌, Option, Some, None}
+use Rattle.std.specs.Prelude.{ℕ, ◌≡◌, ◌+◌, ◌==◌, ◌++◌, ◌∷◌, Bool, true, false, not, ◌&&◌, ◌||◌, if◌then◌else◌, Option, Some, None, []}
+use Rattle.quick_cache_loading.specs.Core.{CoreState, handed_count, held_count, is_loading, waiters_of, waits}
 use Rattle.quick_cache_loading.specs.declared.protocol.events.Event.{Event}
 use Rattle.quick_cache_loading.specs.declared.protocol.events.Answer.{Answer}
 
@@ -93,3 +94,17 @@ joins_as n e a = false
 -- until it is let go
 abbrev pub waits_after : {V : Type 0} → ℕ → Bool → Event V → Answer V → Bool
 waits_after n before e a = (before || joins_as n e a) && not (lets_go n e a)
+
+-- while it loads, a life has one guard, which is held or on its way, and else none
+abbrev pub HasOneGuard : {V : Type 0} → CoreState V → Type 0
+HasOneGuard core = held_count core + handed_count core ≡ (if is_loading core.life then 1 else 0)
+
+-- one to whom the guard is handed is the waiter that was added last
+abbrev pub HandsToLast : {V : Type 0} → Answer V → (old new : CoreState V) → Type 0
+HandsToLast answer old new = (m : ℕ) → answer ≡ Answer.HandedTo m
+    → waiters_of old.life ≡ waiters_of new.life ++ m ∷ []
+
+-- who waits goes on waiting until it is let go
+abbrev pub KeepsWaiters : {V : Type 0} → Event V → Answer V → (old new : CoreState V) → Type 0
+KeepsWaiters event answer old new = (n : ℕ) → waits n old ≡ true
+    → lets_go n event answer ≡ false → waits n new ≡ true

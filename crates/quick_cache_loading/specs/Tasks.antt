@@ -35,9 +35,9 @@ abbrev pub has_slot : ℕ → List Slot → Bool
 has_slot waiter slots = has waiter (numbers_of slots)
 
 -- the slots once one has looked: it has none where it looked for the last time
-abbrev pub slots_after_look : Bool → ℕ → List Slot → List Slot
-slots_after_look true waiter slots = slots_of_others waiter slots
-slots_after_look false waiter slots = slots
+abbrev pub slots_after_poll : Bool → ℕ → List Slot → List Slot
+slots_after_poll true waiter slots = slots_of_others waiter slots
+slots_after_poll false waiter slots = slots
 
 -- the slots with one more, which has no waker yet
 abbrev pub with_slot : ℕ → List Slot → List Slot

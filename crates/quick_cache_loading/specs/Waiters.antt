@@ -8,7 +8,7 @@ use Rattle.quick_cache_loading.specs.declared.protocol.events.Answer.{Answer}
 use Rattle.quick_cache_loading.specs.declared.waiting.waited.Waited.{Waited}
 use Rattle.quick_cache_loading.specs.declared.waiting.waited.Wants.{Wants}
 use Rattle.quick_cache_loading.specs.declared.waiting.tasks.Slot.{Slot}
-use Rattle.quick_cache_loading.specs.declared.waiting.place.Place.{Place}
+use Rattle.quick_cache_loading.specs.declared.waiting.tokens.Place.{Place}
 use Rattle.quick_cache_loading.specs.Tasks.{numbers_of}
 
 -- its ticket, its own copy of the key, its life, the tasks that wait, and its counter
@@ -19,6 +19,14 @@ pub record WaitingState (K V : Type 0) : Type 0 where
   pub tasks : List Slot
   -- the number of the next one who comes to wait
   pub next : ℕ
+
+-- its life and its slots may have changed, and nothing else
+abbrev pub KeepsKeyAndNext : {K V : Type 0} → (old new : WaitingState K V) → Type 0
+KeepsKeyAndNext old new = new ≡ record old { core = new.core; tasks = new.tasks }
+
+-- and its counter, too
+abbrev pub KeepsKey : {K V : Type 0} → (old new : WaitingState K V) → Type 0
+KeepsKey old new = new ≡ record old { core = new.core; tasks = new.tasks; next = new.next }
 
 -- Who waits has a slot, in the order in which they came, and nobody else has one. All numbers are
 -- below that of the next one who comes.
@@ -42,9 +50,9 @@ waits_on Answer.Waiting = true
 waits_on _ = false
 
 -- what a waiter that looks does: it takes what has come, for the last time or not
-abbrev pub look_event : {V : Type 0} → ℕ → Bool → Event V
-look_event waiter true = Event.TimeOut waiter
-look_event waiter false = Event.Take waiter
+abbrev pub poll_event : {V : Type 0} → ℕ → Bool → Event V
+poll_event waiter true = Event.TimeOut waiter
+poll_event waiter false = Event.Take waiter
 
 -- it is told that it has the guard
 abbrev pub IsGuard : {V : Type 0} → Option (Waited V) → Type 0
@@ -69,7 +77,7 @@ Tells stands (Answer.Refused why) told = told ≡ Some (Waited.Refused Refusal.M
 Tells stands _ told = told ≡ Some Waited.Again
 
 -- it looks: the core makes the event, and it is told so
-pub record Looks {V : Type 0} (shows : V → V → Type 0) (stands : Bool) (old : CoreState V)
+pub record Polls {V : Type 0} (shows : V → V → Type 0) (stands : Bool) (old : CoreState V)
     (e : Event V) (told : Option (Waited V)) (new : CoreState V) : Type 0 where
   pub answer : Answer V
   pub step : LoadingStep shows old e answer new

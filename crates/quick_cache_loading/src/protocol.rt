@@ -1,23 +1,18 @@
 //! Loading as a pure machine: the life of a placeholder, one event at a time.
-ghost use Rattle.std.specs.Prelude.{◌≡◌, ℕ, ◌+◌, ◌≤◌, ◌↔◌, ◌==◌, min, [], ◌∷◌, ◌++◌, true, false, not, if◌then◌else◌, IfSome, IsOk, IfOk};
-ghost use Rattle.std.specs.Prelude.{IfErr, OnErr, vec_len};
+ghost use Rattle.std.specs.Prelude.{◌≡◌, ℕ, ◌+◌, ◌≤◌, ◌↔◌, ◌==◌, min, [], true, not, IfSome, IsOk, IfOk, IfErr, OnErr, vec_len};
 ghost use Rattle.std.specs.Vec.{vec_allocator};
-ghost use Rattle.quick_cache_loading.specs.Core.{new_core, held_count, handed_count, is_loading, is_given_up, value_of, waiters_of, waits};
-ghost use Rattle.quick_cache_loading.specs.Core.{concerns};
+ghost use Rattle.quick_cache_loading.specs.Core.{new_core, held_count, is_given_up, value_of, waiters_of, waits, concerns};
 ghost use Rattle.quick_cache_loading.specs.LoadingStep.{LoadingStep};
-ghost use Rattle.quick_cache_loading.specs.LoadingRow.{LoadingRow, NoRowApplies};
-ghost use Rattle.quick_cache_loading.specs.LoadingLaws.{is_not_now, only_tells, given_by, most_given, most_taken, taken_by, done_by};
-ghost use Rattle.quick_cache_loading.specs.LoadingLaws.{shown_by, MayShow, ShowsNothing, value_after, given_up_after, lets_go};
-ghost use Rattle.quick_cache_loading.specs.LoadingRun.{LoadingRun, guards_given, guards_taken, ShowsTheFill, NoneJoinsGivenUp};
-ghost use Rattle.quick_cache_loading.specs.LoadingRun.{NoGiveUpWhileWaiting, waits_at_end};
+ghost use Rattle.quick_cache_loading.specs.LoadingRow.{LoadingRow, NoRowApplies, TablesAgree};
+ghost use Rattle.quick_cache_loading.specs.LoadingLaws.{is_not_now, only_tells, given_by, most_given, most_taken, taken_by, done_by, shown_by};
+ghost use Rattle.quick_cache_loading.specs.LoadingLaws.{MayShow, ShowsNothing, HandsToLast, HasOneGuard, KeepsWaiters, value_after, given_up_after};
+ghost use Rattle.quick_cache_loading.specs.LoadingRun.{LoadingRun, guards_given, guards_taken, waits_at_end};
+ghost use Rattle.quick_cache_loading.specs.LoadingRun.{ShowsTheFill, NoneJoinsGivenUp, NoGiveUpWhileWaiting};
 
 mod events;
-mod laws;
 mod life;
-mod waiters;
 
 pub use events::{Answer, Event};
-pub use laws::tables_agree;
 pub use life::{Core, Holder};
 use quick_cache_model::Refusal;
 use std::alloc::Allocator;
@@ -30,19 +25,14 @@ pub fn step<V: Clone, A: Allocator>(core: &mut Core<V, A>, event: Event<V>) -> A
     // The table, and the same by cases.
     ensures row { LoadingRow V.is_clone event core.old result core.new }
     ensures step { LoadingStep V.is_clone core.old event result core.new }
-    // The guard goes to the waiter that was added last.
-    ensures last { (m : ℕ) → result ≡ Answer.HandedTo m
-        → waiters_of core.old.life ≡ waiters_of core.new.life ++ m ∷ [] }
+    ensures last { HandsToLast result core.old core.new }
 
     // Guards: what is held and was taken back is what was held and is given.
     ensures guards { held_count core.new + taken_by event result
         ≡ held_count core.old + given_by result }
-    // Join, Fill, Abandon, Cancel and Leave give no guard.
     ensures no_guard { given_by result ≤ most_given event }
-    // Fill and Abandon take back the guard that is held.
     ensures taken { taken_by event result ≡ min (most_taken event) (held_count core.old) }
-    ensures one_guard { held_count core.new + handed_count core.new
-        ≡ (if is_loading core.new.life then 1 else 0) }
+    ensures one_guard { HasOneGuard core.new }
     ensures at_most_one { held_count core.new ≤ 1 }
 
     // The answers that change nothing: `NotNow` comes where no row applies, and only there.
@@ -65,8 +55,7 @@ pub fn step<V: Clone, A: Allocator>(core: &mut Core<V, A>, event: Event<V>) -> A
     // Who joins waits from then on, and who waits goes on waiting until it is let go.
     ensures joined { (n : ℕ) → event ≡ Event.Join n → result ≡ Answer.Joined
         → waits n core.new ≡ true }
-    ensures stays { (n : ℕ) → waits n core.old ≡ true → lets_go n event result ≡ false
-        → waits n core.new ≡ true }
+    ensures stays { KeepsWaiters event result core.old core.new }
 {
     make_happen(core, event)
 }
@@ -87,22 +76,16 @@ fn make_happen<V: Clone, A: Allocator>(core: &mut Core<V, A>, event: Event<V>) -
     }
 }
 
-/// Gives the guard up, as the event `Abandon` does. It makes no clone, so a drop can call it.
-///
-/// The guard goes to the waiter that was added last; with none the life is given up. It takes no
-/// memory.
+/// Gives the guard up, as the event `Abandon` does. It makes no clone and takes no memory, so a drop
+/// can call it.
 pub fn abandon<V: Drop, A: Allocator>(core: &mut Core<V, A>) -> Answer<V>
     ensures step { LoadingStep ShowsNothing core.old Event.Abandon result core.new }
     ensures row { LoadingRow ShowsNothing Event.Abandon core.old result core.new }
-    // The guard goes to the waiter that was added last.
-    ensures last { (m : ℕ) → result ≡ Answer.HandedTo m
-        → waiters_of core.old.life ≡ waiters_of core.new.life ++ m ∷ [] }
+    ensures last { HandsToLast result core.old core.new }
 
-    // It takes back the guard that was held, and gives none.
     ensures guards { held_count core.new + done_by result ≡ held_count core.old }
     ensures no_guard { given_by result ≡ 0 }
-    ensures one_guard { held_count core.new + handed_count core.new
-        ≡ (if is_loading core.new.life then 1 else 0) }
+    ensures one_guard { HasOneGuard core.new }
     ensures at_most_one { held_count core.new ≤ 1 }
 
     ensures not_now { is_not_now result ≡ (held_count core.old == 0) }
@@ -113,28 +96,21 @@ pub fn abandon<V: Drop, A: Allocator>(core: &mut Core<V, A>) -> Answer<V>
         ≡ given_up_after (is_given_up core.old.life) result }
     ensures alone { result ≡ Answer.GivenUp → waiters_of core.old.life ≡ [] }
     ensures ended { result ≡ Answer.GivenUp → core.new ≡ new_core }
-    ensures stays { (n : ℕ) → waits n core.old ≡ true → lets_go n Event.Abandon result ≡ false
-        → waits n core.new ≡ true }
+    ensures stays { KeepsWaiters Event.Abandon result core.old core.new }
 {
     core.abandon()
 }
 
-/// Withdraws a waiter, as the event `Cancel` does. It makes no clone, so a drop can call it.
-///
-/// A guard that was on its way to it goes to the waiter that was added last; with none the life is
-/// given up. It takes no memory.
+/// Withdraws a waiter, as the event `Cancel` does. It makes no clone and takes no memory, so a drop
+/// can call it.
 pub fn cancel<V: Drop, A: Allocator>(core: &mut Core<V, A>, waiter: u64) -> Answer<V>
     ensures step { LoadingStep ShowsNothing core.old (Event.Cancel waiter) result core.new }
     ensures row { LoadingRow ShowsNothing (Event.Cancel waiter) core.old result core.new }
-    // The guard goes to the waiter that was added last.
-    ensures last { (m : ℕ) → result ≡ Answer.HandedTo m
-        → waiters_of core.old.life ≡ waiters_of core.new.life ++ m ∷ [] }
+    ensures last { HandsToLast result core.old core.new }
 
-    // It gives no guard, and no guard is held afterwards that was not before.
     ensures guards { held_count core.new ≡ held_count core.old }
     ensures no_guard { given_by result ≡ 0 }
-    ensures one_guard { held_count core.new + handed_count core.new
-        ≡ (if is_loading core.new.life then 1 else 0) }
+    ensures one_guard { HasOneGuard core.new }
     ensures at_most_one { held_count core.new ≤ 1 }
 
     ensures not_now { is_not_now result ≡ not (concerns waiter core.old.life) }
@@ -145,17 +121,15 @@ pub fn cancel<V: Drop, A: Allocator>(core: &mut Core<V, A>, waiter: u64) -> Answ
         ≡ given_up_after (is_given_up core.old.life) result }
     ensures alone { result ≡ Answer.GivenUp → waiters_of core.old.life ≡ [] }
     ensures ended { result ≡ Answer.GivenUp → core.new ≡ new_core }
-    ensures stays { (n : ℕ) → waits n core.old ≡ true
-        → lets_go n (Event.Cancel waiter) result ≡ false → waits n core.new ≡ true }
+    ensures stays { KeepsWaiters (Event.Cancel waiter) result core.old core.new }
 {
     core.cancel(waiter)
 }
 
-/// Makes the events happen in turn, and gives their answers.
+/// Makes the events happen in turn, and gives their answers, in a clone of the events' allocator.
 ///
 /// Room for the answers is made first: where that is refused, no event happens and the core is
-/// unchanged. The answers lie where the events lay, in a clone of their allocator. A list of no
-/// event is refused only where the allocator cannot be cloned.
+/// unchanged. A list of no event is refused only where the allocator cannot be cloned.
 pub fn run<V: Clone, A: Allocator + Clone>(
     core: &mut Core<V, A>,
     events: Vec<Event<V>, A>,
@@ -169,8 +143,7 @@ pub fn run<V: Clone, A: Allocator + Clone>(
     ensures guards { IfOk result (λ answers.
         held_count core.new + guards_taken events.items answers.items
         ≡ held_count core.old + guards_given answers.items) }
-    ensures one_guard { held_count core.new + handed_count core.new
-        ≡ (if is_loading core.new.life then 1 else 0) }
+    ensures one_guard { HasOneGuard core.new }
     ensures at_most_one { held_count core.new ≤ 1 }
 
     ensures shows { IfOk result (λ answers.
@@ -202,3 +175,8 @@ pub fn run<V: Clone, A: Allocator + Clone>(
     }
     Ok(answers)
 }
+
+/// A law of the definitions alone: the table of the core by rows and the table by cases are one.
+pub fn tables_agree<V: Clone>()
+    ensures { TablesAgree V.is_clone }
+{}

@@ -121,7 +121,7 @@ impl<
     }
 
     /// A poll, which keeps what is asked.
-    pub fn go_on(&mut self, cx: &mut Context<'_>) -> Poll<Result<V, Refusal>>
+    pub fn poll_once(&mut self, cx: &mut Context<'_>) -> Poll<Result<V, Refusal>>
         requires callable { F.IsAlwaysCallable self.old.reading.loader }
         requires loads { LoadsFrom F.Fn self.old.reading.loader S.gives }
         ensures fresh { IfReady result (λ answer. IfOk answer (Answers S.gives K.eq self.old.key
@@ -142,7 +142,7 @@ impl<
             Stage::Waits(waiting) => waiting,
             Stage::Finished => return Poll::Ready(Err(Refusal::Finished)),
         };
-        match waiting.go_on(cx) {
+        match waiting.poll_once(cx) {
             Poll::Pending => {
                 self.stage = Stage::Waits(waiting);
                 Poll::Pending
@@ -270,6 +270,6 @@ impl<
         (Li.life_of f.reading.lives f.key) f.moment) };
 
     fn poll(&mut self, cx: &mut Context<'_>) -> Poll<Self::Output> {
-        self.go_on(cx)
+        self.poll_once(cx)
     }
 }

@@ -6,7 +6,7 @@ ghost use Rattle.quick_cache_loading.specs.Fitting.{ClonesFit};
 ghost use Rattle.quick_cache_guard.specs.Fills.{FilledAlone, FilledBy};
 
 use quick_cache_base::protocol::{Answer, Core, Event, run};
-use quick_cache_guard::entries::{EntryShard, entry};
+use quick_cache_guard::entries::EntryShard;
 use quick_cache_guard::{EntryResult, FillError, LoadingShard, PlaceholderGuard, Turns};
 use quick_cache_loading::sharing::SharedPlaceholder;
 use quick_cache_loading::waiting::{Ended, Place, Share, State, Unroused};
@@ -109,7 +109,7 @@ pub fn keep_what_is_there<
     requires stands { StandsForGiven (Q.to_key_gives query.now) (Q.equivalent query.now) }
 {
     let mut keeps = |_: &K, _: &mut V| -> EntryAction<()> { EntryAction::Retain(()) };
-    match entry(rt, shard, query, &mut Turns::within(None), &mut keeps) {
+    match PlaceholderGuard::entry(rt, shard, query, &mut Turns::within(None), &mut keeps) {
         EntryResult::Retained(()) => true,
         EntryResult::Removed(_, _) => unreachable!(),
         EntryResult::Replaced(_, _) => unreachable!(),

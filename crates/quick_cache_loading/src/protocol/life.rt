@@ -1,10 +1,10 @@
 //! The core of a placeholder: how far its life has come, and what each event does to it.
 ghost use Rattle.std.specs.Prelude.{◌≡◌, ◌⊎◌, ◌==◌, ℕ, [], ◌∷◌, ◌++◌, true, not, length};
 ghost use Rattle.quick_cache_loading.specs.Core.{new_core, is_filled, is_handed_to, is_loading, is_sound, waiters_of, held_count};
+ghost use Rattle.quick_cache_loading.specs.Waiting.{has, without_waiter};
 ghost use Rattle.quick_cache_loading.specs.LoadingStep.{Creates, Joins, Fills, Abandons, Takes, TimesOut, Cancels, Leaves, PassesOn};
 
 use crate::protocol::events::Answer;
-use crate::protocol::waiters::Waiters;
 use quick_cache_model::Refusal;
 use std::alloc::{Allocator, Global};
 use std::marker::Model;
@@ -39,12 +39,12 @@ enum Stage<V> {
 
 /// The life of a placeholder, and whether the placeholder is in the shard.
 ///
-/// While a value is loading it has one guard, which is held or on its way to a waiter, and the
-/// numbers of those who wait besides. A filled life keeps its value.
+/// While a value is loading it has one guard, and the numbers of those who wait besides.
 #[derive(Drop)]
 pub struct Core<V, A: Allocator = Global> {
     stage: Stage<V>,
-    waiters: Waiters<A>,
+    // In the order in which they came.
+    waiters: Vec<u64, A>,
     in_shard: bool,
 }
 
@@ -55,9 +55,9 @@ impl<V, A: Allocator> Model for Core<V, A> {
 
     ghost Value = { CoreState V };
 
-    ghost view = { λ core. core_state (life_of core.stage core.waiters) core.in_shard };
+    ghost view = { λ core. core_state (life_of core.stage core.waiters.items) core.in_shard };
 
-    ghost invariant = { λ core. is_sound (life_of core.stage core.waiters) ≡ true };
+    ghost invariant = { λ core. is_sound (life_of core.stage core.waiters.items) ≡ true };
 }
 
 impl<V, A: Allocator> Core<V, A> {
@@ -67,7 +67,7 @@ impl<V, A: Allocator> Core<V, A> {
     {
         Core {
             stage: Stage::GivenUp,
-            waiters: Waiters::new(alloc),
+            waiters: Vec::new(alloc),
             in_shard: false,
         }
     }
@@ -140,10 +140,10 @@ impl<V: Drop, A: Allocator> Core<V, A> {
                 if holder.is_handed_to(waiter) {
                     return self.pass_on();
                 }
-                if !self.waiters.has(waiter) {
+                if !has(&self.waiters, waiter) {
                     return Answer::NotNow;
                 }
-                self.waiters.remove(waiter);
+                remove(&mut self.waiters, waiter);
                 Answer::Done
             }
             Stage::Filled(_) => Answer::Done,
@@ -166,7 +166,7 @@ impl<V: Drop, A: Allocator> Core<V, A> {
         requires { is_loading self.old.life ≡ true }
         ensures { PassesOn (waiters_of self.old.life) self.old result self.new }
     {
-        match self.waiters.take_last() {
+        match self.waiters.pop() {
             Some(waiter) => {
                 self.stage = Stage::Loading(Holder::HandedTo(waiter));
                 Answer::HandedTo(waiter)
@@ -189,10 +189,10 @@ impl<V: Clone, A: Allocator> Core<V, A> {
         }
         match &self.stage {
             Stage::Loading(holder) => {
-                if holder.is_handed_to(waiter) || self.waiters.has(waiter) {
+                if holder.is_handed_to(waiter) || has(&self.waiters, waiter) {
                     return Answer::NotNow;
                 }
-                if self.waiters.add(waiter).is_err() {
+                if self.waiters.push(waiter).is_err() {
                     return Answer::Refused(Refusal::Memory);
                 }
                 Answer::Joined
@@ -211,7 +211,7 @@ impl<V: Clone, A: Allocator> Core<V, A> {
                     self.stage = Stage::Loading(Holder::Held);
                     return Answer::Guard;
                 }
-                if self.waiters.has(waiter) {
+                if has(&self.waiters, waiter) {
                     Answer::Waiting
                 } else {
                     Answer::NotNow
@@ -231,16 +231,30 @@ impl<V: Clone, A: Allocator> Core<V, A> {
                     self.stage = Stage::Loading(Holder::Held);
                     return Answer::Guard;
                 }
-                if !self.waiters.has(waiter) {
+                if !has(&self.waiters, waiter) {
                     return Answer::NotNow;
                 }
-                self.waiters.remove(waiter);
+                remove(&mut self.waiters, waiter);
                 Answer::TimedOut
             }
             Stage::Filled(value) => shown(value),
             Stage::GivenUp => Answer::NotNow,
         }
     }
+}
+
+/// Whether this one waits.
+fn has<A: Allocator>(waiters: &Vec<u64, A>, waiter: u64) -> bool
+    ensures { result ≡ has waiter waiters.now.items }
+{
+    waiters.contains(&waiter)
+}
+
+/// Takes this one out, and keeps the order of the others.
+fn remove<A: Allocator>(waiters: &mut Vec<u64, A>, waiter: u64)
+    ensures { waiters.new.items ≡ without_waiter waiter waiters.old.items }
+{
+    waiters.retain(|other| *other != waiter);
 }
 
 /// A clone of the value, or that its memory was refused.

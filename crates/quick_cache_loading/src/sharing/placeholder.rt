@@ -3,7 +3,7 @@ ghost use Rattle.std.specs.Prelude.{◌≡◌, true, false, Some, IfSome, IfOk, 
 ghost use Rattle.std.specs.Int.NonZero.{non_zero_u32_get};
 ghost use Rattle.futures.specs.Task.{Covers, Keeps};
 ghost use Rattle.quick_cache_loading.specs.Fitting.{FitsIfClonesDo};
-ghost use Rattle.quick_cache_loading.specs.FromState.{ComesTo, FillsAt, FromState, LeavesBy, LooksAt, MayNotFill};
+ghost use Rattle.quick_cache_loading.specs.FromState.{JoinsAt, FillsAt, FromState, LeavesBy, PollsAt, MayNotFill};
 ghost use Rattle.quick_cache_loading.specs.LettingGo.{HandsOn};
 ghost use Rattle.quick_cache_loading.specs.Tasks.{slots_of_others};
 ghost use Rattle.quick_cache_loading.specs.Waiters.{IsTold, IsWanted, WaitingState, by_number, is_refused, is_timeout, told_or_none};
@@ -24,6 +24,7 @@ use std::time::Clock;
 /// A key that is being loaded. Its state lies behind a lock of its own, which is never held while
 /// the lock of a shard is taken. What a call does to the state is said on the call of `State` that
 /// it makes under the lock.
+#[derive(Drop)]
 pub struct Placeholder<K: Eq + Drop, V: Drop, L: Lifecycle<K, V>, A: Allocator = Global> {
     /// The hash of the key.
     pub hash: u64,
@@ -35,20 +36,6 @@ pub struct Placeholder<K: Eq + Drop, V: Drop, L: Lifecycle<K, V>, A: Allocator =
     pub source: Source,
     state: Mutex<State<K, V, L, A>>,
     ready: Condvar,
-}
-
-impl<K: Eq + Drop, V: Drop, L: Lifecycle<K, V>, A: Allocator> Drop for Placeholder<K, V, L, A> {
-    fn drop(self) {
-        let Placeholder {
-            hash: _,
-            idx: _,
-            ticket: _,
-            source: _source,
-            state,
-            ready: _ready,
-        } = self;
-        drop(state);
-    }
 }
 
 impl<K: Eq + Drop, V: Drop, L: Lifecycle<K, V>, A: Allocator> Placeholder<K, V, L, A> {
@@ -110,8 +97,8 @@ impl<K: Eq + Hash + Drop, V: Clone, L: Lifecycle<K, V>, A: Allocator> Placeholde
         }
     }
 
-    /// Gives the guard of a share up, or hands it on where anyone waits by now. The lock of the
-    /// shard is held, and it takes the state's. Where nobody waited the placeholder leaves the shard.
+    /// Gives the guard of a share up, or hands it on where anyone waits by now, while the lock of the
+    /// shard is held. It takes the state's lock.
     pub fn give_up<S: LoadingShard<K, V, L, A>, R: Wait>(
         &self,
         rt: &R,
@@ -130,8 +117,7 @@ impl<K: Eq + Hash + Drop, V: Clone, L: Lifecycle<K, V>, A: Allocator> Placeholde
         }
     }
 
-    /// Withdraws a waiter. The lock of the shard is held, and it takes the state's. Where it was the
-    /// last and the guard was on its way to it, the placeholder leaves the shard.
+    /// Withdraws a waiter, while the lock of the shard is held. It takes the state's lock.
     pub fn withdraw<S: LoadingShard<K, V, L, A>, R: Wait>(
         &self,
         rt: &R,
@@ -156,9 +142,8 @@ impl<K: Eq + Hash + Drop, V: Clone, L: Lifecycle<K, V>, A: Allocator> Placeholde
     ///
     /// # Errors
     ///
-    /// What one is told who does not wait: that it has the guard, the value, that its time is over,
-    /// that it looks in the shard again, or that memory was refused.
-    pub fn enter<S: LoadingShard<K, V, L, A>, Q: Equivalent<K>, R: Wait>(
+    /// What one is told who does not wait.
+    pub fn join<S: LoadingShard<K, V, L, A>, Q: Equivalent<K>, R: Wait>(
         &self,
         rt: &R,
         _locked: &mut S,
@@ -166,7 +151,7 @@ impl<K: Eq + Hash + Drop, V: Clone, L: Lifecycle<K, V>, A: Allocator> Placeholde
         wants: Wants,
         is_over: bool,
     ) -> Result<Place, Waited<V>>
-        ensures enters { FromState (ComesTo V.is_clone (Q.equivalent query.now) wants
+        ensures enters { FromState (JoinsAt V.is_clone (Q.equivalent query.now) wants
             self.now.ticket is_over (by_number result)) }
         ensures place { IfOk result (λ place. place.ticket ≡ self.now.ticket) }
         ensures shard { _locked.new ≡ _locked.old }
@@ -180,15 +165,11 @@ impl<K: Eq + Hash + Drop, V: Clone, L: Lifecycle<K, V>, A: Allocator> Placeholde
         if state.ticket() != self.ticket || state.has_ended(wants) {
             return Err(Waited::Again);
         }
-        state.enter(query, is_over)
+        state.join(query, is_over)
     }
 
     /// A task looks whether the guard or the value has come to its waiter, and leaves its waker
-    /// where it goes on waiting. It takes the state's lock, and waits for nothing else.
-    ///
-    /// # Errors
-    ///
-    /// Its place, where it goes on waiting.
+    /// where it goes on waiting, by its place. It takes the state's lock, and waits for nothing else.
     pub fn poll<Q: Equivalent<K>, R: Wait>(
         &self,
         rt: &R,
@@ -197,7 +178,7 @@ impl<K: Eq + Hash + Drop, V: Clone, L: Lifecycle<K, V>, A: Allocator> Placeholde
         wants: Wants,
         cx: &mut Context<'_>,
     ) -> Result<Waited<V>, Place>
-        ensures looks { FromState (LooksAt V.is_clone (Q.equivalent query.now) wants place false
+        ensures looks { FromState (PollsAt V.is_clone (Q.equivalent query.now) wants place false
             (told_or_none result)) }
         ensures place { IfErr result (λ kept. kept ≡ place) }
         ensures timely { IfOk result (λ told. is_timeout told ≡ false) }
@@ -210,7 +191,7 @@ impl<K: Eq + Hash + Drop, V: Clone, L: Lifecycle<K, V>, A: Allocator> Placeholde
     {
         self.state
             .lock(rt)
-            .poll(place, query, wants, &self.source, cx)
+            .poll_as_task(place, query, wants, &self.source, cx)
     }
 
     /// Waits until the guard or the value comes to a waiter. It takes the state's lock, and lets it
@@ -222,18 +203,17 @@ impl<K: Eq + Hash + Drop, V: Clone, L: Lifecycle<K, V>, A: Allocator> Placeholde
         query: &Q,
         wants: Wants,
     ) -> Waited<V>
-        ensures looks { FromState (LooksAt V.is_clone (Q.equivalent query.now) wants place false
+        ensures looks { FromState (PollsAt V.is_clone (Q.equivalent query.now) wants place false
             (Some result)) }
         ensures timely { is_timeout result ≡ false }
         ensures told { IsTold place.ticket (IsWanted wants
             (FitsIfClonesDo L.fits V.is_clone (Q.equivalent query.now))) result }
-        // One who wants no value asks for no memory, and is not refused.
         ensures refused { wants ≡ Wants.End → is_refused result ≡ false }
     {
         let mut place = place;
         for _ in rt.forever() {
             let mut state = self.state.lock(rt);
-            match state.look(place, query, wants, false) {
+            match state.poll(place, query, wants, false) {
                 Ok(told) => return told,
                 Err(kept) => place = kept,
             }
@@ -251,14 +231,13 @@ impl<K: Eq + Hash + Drop, V: Clone, L: Lifecycle<K, V>, A: Allocator> Placeholde
         wants: Wants,
         turns: &mut Turns,
     ) -> Waited<V>
-        ensures looks { FromState (LooksAt V.is_clone (Q.equivalent query.now) wants place
+        ensures looks { FromState (PollsAt V.is_clone (Q.equivalent query.now) wants place
             (none_left turns.new.limit turns.new.ended) (Some result)) }
         // Its time is over only where no turn is left.
         ensures timely { is_timeout result ≡ true → none_left turns.new.limit turns.new.ended ≡ true }
         ensures counts { IsLater turns.old turns.new }
         ensures told { IsTold place.ticket (IsWanted wants
             (FitsIfClonesDo L.fits V.is_clone (Q.equivalent query.now))) result }
-        // One who wants no value asks for no memory, and is not refused.
         ensures refused { wants ≡ Wants.End → is_refused result ≡ false }
     {
         if !turns.is_counted() {
@@ -267,7 +246,7 @@ impl<K: Eq + Hash + Drop, V: Clone, L: Lifecycle<K, V>, A: Allocator> Placeholde
         let mut place = place;
         for _ in rt.forever() {
             let mut state = self.state.lock(rt);
-            match state.look(place, query, wants, turns.is_over()) {
+            match state.poll(place, query, wants, turns.is_over()) {
                 Ok(told) => return told,
                 Err(kept) => place = kept,
             }

@@ -40,17 +40,14 @@ pub trait LoadingShard<K: Eq + Hash + Drop, V: Clone, L: Lifecycle<K, V>, A: All
     ghost refuses: { (K → Bool) → Refusal → Self → Type 0 };
 
     /// Looks the query's key up beside other readers, and gives a clone of its value. A find counts
-    /// a hit and a touch of the item. Where there is none nothing is counted, since the caller goes
-    /// on to `begin_load`.
+    /// a hit and a touch of the item, and nothing else is counted.
     ///
     /// # Errors
     ///
-    /// `Memory` where the clone failed. Nothing was counted then.
+    /// `Memory` where the clone failed.
     fn find<Q: Equivalent<K>>(&self, query: &Q) -> Result<Option<V>, Refusal>
-        // Where clones fit as their values do.
         ensures fits { ClonesFit L.fits V.is_clone → IfOk result
-            (λ found. IfSome found
-            (λ value. FitsQuery L.fits (Q.equivalent query.now) value)) }
+            (λ found. IfSome found (λ value. FitsQuery L.fits (Q.equivalent query.now) value)) }
         ensures shows { IfOk result
             (λ found. IfSome found (λ value. shows (Q.equivalent query.now) value self.now)) }
         ensures refused { IfErr result (λ refusal. refusal ≡ Refusal.Memory) };
@@ -59,29 +56,26 @@ pub trait LoadingShard<K: Eq + Hash + Drop, V: Clone, L: Lifecycle<K, V>, A: All
     ///
     /// # Errors
     ///
-    /// `Memory` where a clone of the value failed, and where a placeholder would be made what
-    /// refuses one. Nothing has changed then.
+    /// `Memory` where a clone failed, and what refuses a placeholder. Nothing has changed then.
     fn begin_load<Q: ToKey<K>>(
         &mut self,
         query: &Q,
     ) -> Result<Begun<V, SharedPlaceholder<K, V, L, A>>, Refusal>
         requires stands { StandsForGiven (Q.to_key_gives query.now) (Q.equivalent query.now) }
-        // Where clones fit as their values do.
         ensures fits { ClonesFit L.fits V.is_clone → IfOk result
-            (λ begun. IfFound begun
-            (λ value. FitsQuery L.fits (Q.equivalent query.now) value)) }
+            (λ begun. IfFound begun (λ value. FitsQuery L.fits (Q.equivalent query.now) value)) }
         ensures shows { IfOk result
             (λ begun. IfFound begun (λ value. shows (Q.equivalent query.now) value self.old)) }
         ensures refuses { IfErr result
             (λ refusal. refuses (Q.equivalent query.now) refusal self.old) }
         ensures refused { IfErr result IsLoadRefusal };
 
-    /// Puts the value of a placeholder that was filled into its place, if it is there and is for that
-    /// key. Its mark is whether anyone waited for it.
+    /// Puts the value of a placeholder that was filled into its place. Its mark is whether anyone
+    /// waited for it.
     ///
     /// # Errors
     ///
-    /// The value, where it is not there. Nothing has changed then.
+    /// The value, where the placeholder is not there, or for another key. Nothing has changed then.
     fn end_load(
         &mut self,
         placeholder: &SharedPlaceholder<K, V, L, A>,

@@ -47,7 +47,6 @@ impl Touches for SharedTouches {
     }
 
     fn take(&mut self) -> u64 {
-        // Nobody adds meanwhile, so no locked instruction is needed.
         replace(self.count.get_mut(), 0)
     }
 }

@@ -1,28 +1,22 @@
 //! The state of a placeholder, as its lock keeps it.
-ghost use Rattle.std.specs.Prelude.{◌≡◌, ◌≢◌, ◌==◌, true, false, not, length, Some, None, [], IfSome};
-ghost use Rattle.std.specs.Prelude.{is_some};
+ghost use Rattle.std.specs.Prelude.{◌≡◌, ◌≢◌, ◌==◌, true, false, not, length, Some, None, [], IfSome, is_some};
 ghost use Rattle.quick_cache_loading.specs.Core.{new_core, is_filled, is_sound, waiters_of, waits};
 ghost use Rattle.quick_cache_loading.specs.LettingGo.{HandsOn, LetsGo};
 ghost use Rattle.quick_cache_loading.specs.Tasks.{slots_of_others};
-ghost use Rattle.quick_cache_loading.specs.Waiters.{ends_life};
+ghost use Rattle.quick_cache_loading.specs.Waiters.{KeepsKeyAndNext, ends_life};
 
 mod events;
 mod visits;
 
 use crate::protocol::{Answer, Core, Event, abandon, cancel};
-use crate::waiting::ended::Ended;
-use crate::waiting::place::Place;
-use crate::waiting::share::Share;
-use crate::waiting::tasks::Tasks;
-use crate::waiting::unroused::Unroused;
+use crate::waiting::{Ended, Place, Share, Tasks, Unroused};
 use quick_cache_model::Lifecycle;
 use std::alloc::{Allocator, Global};
 use std::marker::{Model, PhantomData};
 
-/// The state of a placeholder, whose core changes by the events of the loading core alone. It holds
-/// the share exactly where no guard is held, and the value that it is filled with fits its key. Who
-/// waits has a slot for its waker, and a number that nobody had: they are counted up. Contracts see
-/// its ticket, its own copy of the key, its core, the slots, and the next number.
+/// The state of a placeholder. It holds the share exactly where no guard is held, and the value that
+/// it is filled with fits its key. Who waits has a slot for its waker, and a number that nobody had.
+/// Contracts see its ticket, its own copy of the key, its core, the slots, and the next number.
 pub struct State<K: Eq + Drop, V: Drop, L: Lifecycle<K, V>, A: Allocator = Global> {
     ticket: u64,
     key: K,
@@ -54,17 +48,15 @@ impl<K: Eq + Drop, V: Drop, L: Lifecycle<K, V>, A: Allocator> Drop for State<K, 
         let State {
             ticket: _,
             key: _key,
-            core,
+            core: _core,
             share,
-            tasks,
+            tasks: _tasks,
             next: _,
             of: _,
         } = self;
         if let Some(share) = share {
             share.end();
         }
-        drop(core);
-        drop(tasks);
     }
 }
 
@@ -84,16 +76,7 @@ fn ended_by<V>(ticket: u64, answer: &Answer<V>) -> Option<Ended>
 {
     match answer {
         Answer::GivenUp => Some(Ended::new(ticket)),
-        Answer::Created => None,
-        Answer::Joined => None,
-        Answer::Value(_) => None,
-        Answer::Guard => None,
-        Answer::Waiting => None,
-        Answer::TimedOut => None,
-        Answer::HandedTo(_) => None,
-        Answer::Done => None,
-        Answer::Refused(_) => None,
-        Answer::NotNow => None,
+        _ => None,
     }
 }
 
@@ -127,7 +110,7 @@ impl<K: Eq + Drop, V: Drop, L: Lifecycle<K, V>, A: Allocator> State<K, V, L, A> 
         &self.key
     }
 
-    /// Those who wait are distinct, and the one to whom the guard was handed is not among them.
+    /// Brings up what holds of each core.
     fn is_sound(&self)
         ensures { is_sound self.now.core.life ≡ true }
     {
@@ -138,10 +121,7 @@ impl<K: Eq + Drop, V: Drop, L: Lifecycle<K, V>, A: Allocator> State<K, V, L, A> 
     /// another placeholder ends.
     pub fn hand_on(&mut self, share: Share) -> Result<Unroused<()>, Share>
         ensures event { HandsOn share self.old self.new result }
-        ensures same { self.new ≡ record self.old {
-          core = self.new.core;
-          tasks = self.new.tasks;
-        } }
+        ensures same { KeepsKeyAndNext self.old self.new }
     {
         if !self.has_waiters() {
             return Err(share);
@@ -175,10 +155,7 @@ impl<K: Eq + Drop, V: Drop, L: Lifecycle<K, V>, A: Allocator> State<K, V, L, A> 
         ensures other { share ≢ self.old.ticket → (self.new ≡ self.old) × (result ≡ None) }
         ensures ended { IfSome result
             (λ ended. (ended.ticket ≡ share) × (share ≡ self.old.ticket)) }
-        ensures same { self.new ≡ record self.old {
-          core = self.new.core;
-          tasks = self.new.tasks;
-        } }
+        ensures same { KeepsKeyAndNext self.old self.new }
     {
         if share.ticket() != self.ticket {
             share.end();
@@ -209,10 +186,7 @@ impl<K: Eq + Drop, V: Drop, L: Lifecycle<K, V>, A: Allocator> State<K, V, L, A> 
         // It waits no more.
         ensures withdrawn { place.ticket ≡ self.old.ticket
             → waits place.number self.new.core ≡ false }
-        ensures same { self.new ≡ record self.old {
-          core = self.new.core;
-          tasks = self.new.tasks;
-        } }
+        ensures same { KeepsKeyAndNext self.old self.new }
     {
         if place.ticket() != self.ticket {
             place.end();

@@ -19,8 +19,7 @@ pub struct Slot {
     pub waker: Option<Waker>,
 }
 
-/// The slots of those who wait. One that is taken out wakes its task, since a waker wakes when it is
-/// dropped. Contracts see the list of slots.
+/// The slots of those who wait. One that is taken out wakes its task. Contracts see the list of slots.
 #[derive(Drop)]
 pub struct Tasks<A: Allocator = Global> {
     slots: Vec<Slot, A>,

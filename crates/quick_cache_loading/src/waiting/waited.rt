@@ -1,5 +1,5 @@
 //! What one who waits is told.
-use crate::waiting::share::Share;
+use crate::waiting::Share;
 use quick_cache_model::Refusal;
 
 /// What one who waits wants of a load.

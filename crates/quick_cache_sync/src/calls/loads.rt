@@ -13,9 +13,7 @@ ghost use Rattle.quick_cache_shard.specs.Shard.{Shard};
 ghost use Rattle.quick_cache_model.specs.Hashing.{StandsForGiven};
 
 use crate::cache::Cache;
-use quick_cache_guard::{
-    EntryResult, Fetched, GuardResult, PlaceholderGuard, Turns, entries, loads,
-};
+use quick_cache_guard::{EntryResult, Fetched, GuardResult, PlaceholderGuard, Turns};
 use quick_cache_locked::LockedShard;
 use quick_cache_model::{Lifecycle, Refusal, ToKey, Weighter};
 use quick_cache_shard::EntryAction;
@@ -59,7 +57,7 @@ impl<
         ensures refused { RefusesAsLoad result }
         ensures timely { limit ≡ None → is_timeout result ≡ false }
     {
-        loads::get_value_or_guard(rt, self.shard_of(query), query, limit)
+        PlaceholderGuard::get_value_or_guard(rt, self.shard_of(query), query, limit)
     }
 
     /// The value under the query's key, or the one that the loader gives, which is put in. Who finds
@@ -95,7 +93,7 @@ impl<
         ensures error { IfOk result (λ loaded. IfErr loaded (λ error. F.post loader (Err error))) }
         ensures refused { IfErr result IsLoadRefusal }
     {
-        loads::get_or_insert_with(rt, self.shard_of(query), query, loader)
+        PlaceholderGuard::get_or_insert_with(rt, self.shard_of(query), query, loader)
     }
 
     /// As `get_or_insert_with`, and tells whether this call's loader gave the value.
@@ -132,7 +130,7 @@ impl<
             (Q.equivalent query.now) refusal shard)) }
         ensures refused { IfErr result IsLoadRefusal }
     {
-        loads::get_or_insert_told(rt, self.shard_of(query), query, loader)
+        PlaceholderGuard::get_or_insert_told(rt, self.shard_of(query), query, loader)
     }
 
     /// Shows the item under the query's key to the callback, under the write lock of the key's
@@ -179,7 +177,7 @@ impl<
         ensures refused { IsRefusedAsLoad result }
         ensures timely { limit ≡ None → is_late result ≡ false }
     {
-        entries::entry(
+        PlaceholderGuard::entry(
             rt,
             self.shard_of(query),
             query,

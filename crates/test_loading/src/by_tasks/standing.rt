@@ -42,7 +42,7 @@ fn load_and_tell<S: LoadingShard<u64, Unique, Life, A>, R: Wait, A: Allocator>(
 ) -> Option<Filled>
     ensures { IfSome result (λ filled. filled.ticket ≡ placeholder.now.ticket) }
 {
-    match placeholder.enter(rt, locked, &1, Wants::Value, true) {
+    match placeholder.join(rt, locked, &1, Wants::Value, true) {
         Err(Waited::Guard(share)) => match placeholder.fill(rt, &1, share, Unique(5)) {
             Ok(filled) => Some(filled),
             Err((share, _)) => {

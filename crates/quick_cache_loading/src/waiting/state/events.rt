@@ -1,20 +1,16 @@
 //! What happens to a placeholder: each call is one event of its core.
-ghost use Rattle.std.specs.Prelude.{◌≡◌, ◌≢◌, ◌⊎◌, ◌==◌, ◌+◌, ◌<◌, MatchOption, MatchResult, not, length, IfSome, IfNone, IfOk, IfErr, IsSome, OnErr};
-ghost use Rattle.std.specs.Prelude.{is_some, true, false};
+ghost use Rattle.std.specs.Prelude.{◌≡◌, ◌≢◌, ◌⊎◌, ◌==◌, ◌+◌, ◌<◌, true, false, not, length, is_some, MatchOption, MatchResult, IfSome, IfNone, IfOk, IfErr, IsSome, OnErr};
 ghost use Rattle.quick_cache_loading.specs.Core.{is_given_up, waiters_of};
 ghost use Rattle.quick_cache_loading.specs.FromState.{MayNotFill};
 ghost use Rattle.quick_cache_loading.specs.LoadingStep.{LoadingStep};
-ghost use Rattle.quick_cache_loading.specs.LoadingLaws.{given_by, shown_by};
-ghost use Rattle.quick_cache_loading.specs.Fitting.{ClonesFit};
-ghost use Rattle.quick_cache_loading.specs.Waiters.{has_joined, is_timed_out, waits_on};
+ghost use Rattle.quick_cache_loading.specs.LoadingLaws.{given_by};
+ghost use Rattle.quick_cache_loading.specs.Fitting.{ShowsFitting};
+ghost use Rattle.quick_cache_loading.specs.Waiters.{KeepsKey, KeepsKeyAndNext, has_joined, is_timed_out, waits_on};
 ghost use Rattle.quick_cache_loading.specs.Tasks.{has_slot, slots_after_fill, slots_of_others, with_slot};
 
 use crate::protocol::{Answer, Event, step};
-use crate::waiting::ended::Filled;
-use crate::waiting::place::Place;
-use crate::waiting::share::Share;
-use crate::waiting::state::{State, keep};
-use crate::waiting::unroused::Unroused;
+use crate::waiting::state::keep;
+use crate::waiting::{Filled, Place, Share, State, Unroused};
 use quick_cache_model::{Lifecycle, Refusal};
 use std::alloc::Allocator;
 
@@ -34,30 +30,22 @@ impl<K: Eq + Drop, V: Clone, L: Lifecycle<K, V>, A: Allocator> State<K, V, L, A>
         }
     }
 
-    /// One comes for the value by the next number, and waits for it where it is loading. It gets its
-    /// place, and a slot for the waker of a task, exactly where it joined. It may allocate.
-    pub(super) fn join(&mut self) -> (Answer<V>, Option<Place>)
+    /// One comes for the value by the next number. It gets its place, and a slot for the waker of a
+    /// task, exactly where it joined. It may allocate.
+    pub(super) fn add_waiter(&mut self) -> (Answer<V>, Option<Place>)
         requires unspent { self.old.next < u64.MAX }
         ensures event { LoadingStep V.is_clone self.old.core (Event.Join self.old.next) result.0
             self.new.core
             ⊎ ((result.0 ≡ Answer.Refused Refusal.Memory) × (self.new.core ≡ self.old.core)) }
         ensures gives { is_some result.1 ≡ has_joined result.0 }
-        ensures place { IfSome result.1 (λ place. place ≡ record {
-          ticket = self.old.ticket;
-          number = self.old.next;
-        }) }
-        // It has a slot, and the others keep theirs. Its number is nobody's afterwards.
+        ensures place { IfSome result.1
+            (λ place. place ≡ record { ticket = self.old.ticket; number = self.old.next }) }
         ensures joined { IsSome result.1 → (self.new.next ≡ self.old.next + 1)
             × (self.new.tasks ≡ with_slot self.old.next self.old.tasks) }
         ensures alone { IfNone result.1 ((self.new.next ≡ self.old.next)
             × (self.new.tasks ≡ self.old.tasks)) }
-        ensures same { self.new ≡ record self.old {
-          core = self.new.core;
-          tasks = self.new.tasks;
-          next = self.new.next;
-        } }
-        ensures fits { ClonesFit L.fits V.is_clone
-            → IfSome (shown_by result.0) (λ value. L.fits self.old.key value) }
+        ensures same { KeepsKey self.old self.new }
+        ensures fits { ShowsFitting L.fits V.is_clone self.old.key result.0 }
     {
         let waiter = self.next;
         if self.tasks.add(waiter).is_err() {
@@ -76,8 +64,7 @@ impl<K: Eq + Drop, V: Clone, L: Lifecycle<K, V>, A: Allocator> State<K, V, L, A>
         }
     }
 
-    /// Fills the placeholder with a value that fits the guard's own copy of the key, and takes the
-    /// share back. It gives what tells the shard so, and whether anyone waited.
+    /// Fills the placeholder, and takes the share back. What it gives tells the shard so.
     ///
     /// # Errors
     ///
@@ -96,18 +83,9 @@ impl<K: Eq + Drop, V: Clone, L: Lifecycle<K, V>, A: Allocator> State<K, V, L, A>
         ensures woken { self.new.tasks ≡ slots_after_fill result self.old.tasks }
         ensures back { IfErr result (λ back. (back.0 ≡ share) × (back.1 ≡ value)) }
         ensures refused { OnErr result (MayNotFill key.now share self.old) }
-        ensures same { self.new ≡ record self.old {
-          core = self.new.core;
-          tasks = self.new.tasks;
-        } }
+        ensures same { KeepsKeyAndNext self.old self.new }
     {
-        if share.ticket() != self.ticket {
-            return Err((share, value));
-        }
-        if *key != self.key {
-            return Err((share, value));
-        }
-        if !self.core.is_held() {
+        if share.ticket() != self.ticket || *key != self.key || !self.core.is_held() {
             return Err((share, value));
         }
         let waited = self.has_waiters();
@@ -117,11 +95,8 @@ impl<K: Eq + Drop, V: Clone, L: Lifecycle<K, V>, A: Allocator> State<K, V, L, A>
         Ok(Unroused::new(Filled::new(self.ticket, waited)))
     }
 
-    /// A waiter looks whether the guard or the value has come.
-    ///
-    /// # Errors
-    ///
-    /// Its place, exactly where it goes on waiting.
+    /// A waiter looks whether the guard or the value has come. It keeps its place exactly where it
+    /// goes on waiting.
     pub fn take(&mut self, place: Place) -> Result<(Answer<V>, Option<Share>), Place>
         requires place { place.ticket ≡ self.old.ticket }
         ensures event { MatchResult result
@@ -131,13 +106,11 @@ impl<K: Eq + Drop, V: Clone, L: Lifecycle<K, V>, A: Allocator> State<K, V, L, A>
             (λ kept. (kept ≡ place)
             × LoadingStep V.is_clone self.old.core (Event.Take place.number) Answer.Waiting
             self.new.core) }
-        // Who goes on waiting has its slot.
         ensures waits { OnErr result (has_slot place.number self.new.tasks ≡ true) }
         ensures gives { IfOk result (λ given. is_some given.1 ≡ (given_by given.0 == 1)) }
         ensures share { IfOk result (λ given. IfSome given.1
             (λ share. share ≡ self.old.ticket)) }
-        ensures fits { ClonesFit L.fits V.is_clone → IfOk result
-            (λ given. IfSome (shown_by given.0) (λ value. L.fits self.old.key value)) }
+        ensures fits { IfOk result (λ given. ShowsFitting L.fits V.is_clone self.old.key given.0) }
         ensures same { self.new ≡ record self.old { core = self.new.core } }
     {
         let answer = step(&mut self.core, Event::Take(place.number()));
@@ -163,12 +136,8 @@ impl<K: Eq + Drop, V: Clone, L: Lifecycle<K, V>, A: Allocator> State<K, V, L, A>
         ensures share { IfSome result.1 (λ share. share ≡ self.old.ticket) }
         ensures ends { waits_on result.0 ≡ false }
         ensures woken { self.new.tasks ≡ slots_of_others place.number self.old.tasks }
-        ensures fits { ClonesFit L.fits V.is_clone
-            → IfSome (shown_by result.0) (λ value. L.fits self.old.key value) }
-        ensures same { self.new ≡ record self.old {
-          core = self.new.core;
-          tasks = self.new.tasks;
-        } }
+        ensures fits { ShowsFitting L.fits V.is_clone self.old.key result.0 }
+        ensures same { KeepsKeyAndNext self.old self.new }
     {
         self.is_sound();
         let waiter = place.end();

@@ -1,19 +1,15 @@
 //! Those who come to a placeholder and look at it again: what each of them is told.
-ghost use Rattle.std.specs.Prelude.{◌≡◌, ◌≢◌, ◌⊎◌, ◌==◌, ◌+◌, ◌≤◌, ℕ, true, false, Some, IfSome, IfOk, IfErr, IsOk, IsErr, OnOk, OnErr};
-ghost use Rattle.std.specs.Prelude.{is_some};
+ghost use Rattle.std.specs.Prelude.{◌≡◌, ◌≢◌, ◌⊎◌, ◌==◌, ◌+◌, ◌≤◌, ℕ, true, false, Some, is_some, IfSome, IfOk, IfErr, IsOk, IsErr, OnOk, OnErr};
 ghost use Rattle.futures.specs.Task.{Covers, Keeps};
-ghost use Rattle.quick_cache_loading.specs.LoadingLaws.{given_by, shown_by};
-ghost use Rattle.quick_cache_loading.specs.Fitting.{ClonesFit, FitsIfClonesDo};
-ghost use Rattle.quick_cache_loading.specs.Tasks.{HasWaker, has_slot, slots_after_look, slots_of_others};
-ghost use Rattle.quick_cache_loading.specs.Waiters.{IsTold, IsWanted, Looks, Tells, by_number, has_ended, has_joined, is_refused, is_timed_out, is_timeout, look_event};
+ghost use Rattle.quick_cache_loading.specs.LoadingLaws.{given_by};
+ghost use Rattle.quick_cache_loading.specs.Fitting.{FitsIfClonesDo, ShowsFitting};
+ghost use Rattle.quick_cache_loading.specs.Tasks.{HasWaker, has_slot, slots_after_poll, slots_of_others};
+ghost use Rattle.quick_cache_loading.specs.Waiters.{IsTold, IsWanted, KeepsKey, KeepsKeyAndNext, Polls, Tells, by_number, has_ended, has_joined, is_refused, is_timed_out, is_timeout, poll_event};
 ghost use Rattle.quick_cache_loading.specs.Waiters.{told_or_none, waits_on};
-ghost use Rattle.quick_cache_loading.specs.Entering.{Enters, LooksOnce, TellsNewcomer};
+ghost use Rattle.quick_cache_loading.specs.Joining.{BeginsOrJoins, PollsAtOnce, TellsJoiner};
 
 use crate::protocol::{Answer, Event};
-use crate::waiting::place::Place;
-use crate::waiting::share::Share;
-use crate::waiting::state::State;
-use crate::waiting::waited::{Waited, Wants};
+use crate::waiting::{Place, Share, State, Waited, Wants};
 use futures::task::{Context, Poll, Source};
 use quick_cache_model::{Equivalent, Lifecycle, Refusal};
 use std::alloc::Allocator;
@@ -40,7 +36,7 @@ impl<K: Eq + Hash + Drop, V: Clone, L: Lifecycle<K, V>, A: Allocator> State<K, V
     /// A waiter looks whether the guard or the value has come, for the last time where its time is
     /// over. One who goes on waiting keeps its place. A place at another placeholder ends, and who
     /// has it looks in the shard again; so does one who wants no value, once that has come.
-    pub fn look<Q: Equivalent<K>>(
+    pub fn poll<Q: Equivalent<K>>(
         &mut self,
         place: Place,
         query: &Q,
@@ -48,7 +44,7 @@ impl<K: Eq + Hash + Drop, V: Clone, L: Lifecycle<K, V>, A: Allocator> State<K, V
         is_over: bool,
     ) -> Result<Waited<V>, Place>
         ensures looks { place.ticket ≡ self.old.ticket → has_ended wants self.old.core.life ≡ false
-            → Looks V.is_clone (Q.equivalent query.now self.old.key) self.old.core (look_event place.number is_over)
+            → Polls V.is_clone (Q.equivalent query.now self.old.key) self.old.core (poll_event place.number is_over)
             (told_or_none result) self.new.core }
         ensures ended { place.ticket ≡ self.old.ticket → has_ended wants self.old.core.life ≡ true
             → (result ≡ Ok Waited.Again) × (self.new ≡ self.old) }
@@ -61,21 +57,17 @@ impl<K: Eq + Hash + Drop, V: Clone, L: Lifecycle<K, V>, A: Allocator> State<K, V
             (FitsIfClonesDo L.fits V.is_clone (Q.equivalent query.now)))) }
         // One who wants no value asks for no memory, and is not refused.
         ensures refused { wants ≡ Wants.End → IfOk result (λ told. is_refused told ≡ false) }
-        // Who goes on waiting has its slot, and who looks for the last time has none.
         ensures waits { OnErr result (has_slot place.number self.new.tasks ≡ true) }
         ensures woken { place.ticket ≡ self.old.ticket → has_ended wants self.old.core.life ≡ false
-            → self.new.tasks ≡ slots_after_look is_over place.number self.old.tasks }
-        ensures same { self.new ≡ record self.old {
-          core = self.new.core;
-          tasks = self.new.tasks;
-        } }
+            → self.new.tasks ≡ slots_after_poll is_over place.number self.old.tasks }
+        ensures same { KeepsKeyAndNext self.old self.new }
     {
         if place.ticket() != self.ticket || self.has_ended(wants) {
             place.end();
             return Ok(Waited::Again);
         }
         if is_over {
-            return Ok(self.look_last(place, query));
+            return Ok(self.poll_last(place, query));
         }
         match self.take(place) {
             Ok((answer, share)) => Ok(self.told(query, answer, share)),
@@ -83,25 +75,21 @@ impl<K: Eq + Hash + Drop, V: Clone, L: Lifecycle<K, V>, A: Allocator> State<K, V
         }
     }
 
-    /// A waiter whose time is over looks for the last time.
-    fn look_last<Q: Equivalent<K>>(&mut self, place: Place, query: &Q) -> Waited<V>
+    /// A waiter looks for the last time.
+    fn poll_last<Q: Equivalent<K>>(&mut self, place: Place, query: &Q) -> Waited<V>
         requires place { place.ticket ≡ self.old.ticket }
-        ensures looks { Looks V.is_clone (Q.equivalent query.now self.old.key) self.old.core (Event.TimeOut place.number) (Some result)
+        ensures looks { Polls V.is_clone (Q.equivalent query.now self.old.key) self.old.core (Event.TimeOut place.number) (Some result)
             self.new.core }
         ensures told { IsTold self.old.ticket
             (FitsIfClonesDo L.fits V.is_clone (Q.equivalent query.now)) result }
         ensures woken { self.new.tasks ≡ slots_of_others place.number self.old.tasks }
-        ensures same { self.new ≡ record self.old {
-          core = self.new.core;
-          tasks = self.new.tasks;
-        } }
+        ensures same { KeepsKeyAndNext self.old self.new }
     {
         let (answer, share) = self.time_out(place);
         self.told(query, answer, share)
     }
 
-    /// What a waiter that waits no more is told of the core's answer, and of the share that came
-    /// with it.
+    /// What one who waits no more is told of the core's answer, and of the share that came with it.
     fn told<Q: Equivalent<K>>(
         &self,
         query: &Q,
@@ -111,8 +99,7 @@ impl<K: Eq + Hash + Drop, V: Clone, L: Lifecycle<K, V>, A: Allocator> State<K, V
         requires gives { is_some share ≡ (given_by answer == 1) }
         requires ends { waits_on answer ≡ false }
         requires share { IfSome share (λ share. share ≡ self.now.ticket) }
-        requires fits { ClonesFit L.fits V.is_clone
-            → IfSome (shown_by answer) (λ value. L.fits self.now.key value) }
+        requires fits { ShowsFitting L.fits V.is_clone self.now.key answer }
         ensures tells { Tells (Q.equivalent query.now self.now.key) answer (Some result) }
         ensures timely { is_timed_out answer ≡ false → is_timeout result ≡ false }
         ensures told { IsTold self.now.ticket
@@ -134,20 +121,12 @@ impl<K: Eq + Hash + Drop, V: Clone, L: Lifecycle<K, V>, A: Allocator> State<K, V
             Answer::Waiting => unreachable!(),
             Answer::Created => unreachable!(),
             Answer::Guard => unreachable!(),
-            Answer::Joined => Waited::Again,
-            Answer::HandedTo(_) => Waited::Again,
-            Answer::GivenUp => Waited::Again,
-            Answer::Done => Waited::Again,
-            Answer::NotNow => Waited::Again,
+            _ => Waited::Again,
         }
     }
 
-    /// As `look`, for a task, which leaves its waker where it goes on waiting.
-    ///
-    /// # Errors
-    ///
-    /// Its place, where it goes on waiting.
-    pub fn poll<Q: Equivalent<K>>(
+    /// As `poll`, for a task, which leaves its waker where it goes on waiting.
+    pub fn poll_as_task<Q: Equivalent<K>>(
         &mut self,
         place: Place,
         query: &Q,
@@ -156,7 +135,7 @@ impl<K: Eq + Hash + Drop, V: Clone, L: Lifecycle<K, V>, A: Allocator> State<K, V
         cx: &mut Context<'_>,
     ) -> Result<Waited<V>, Place>
         ensures looks { place.ticket ≡ self.old.ticket → has_ended wants self.old.core.life ≡ false
-            → Looks V.is_clone (Q.equivalent query.now self.old.key) self.old.core (Event.Take place.number)
+            → Polls V.is_clone (Q.equivalent query.now self.old.key) self.old.core (Event.Take place.number)
             (told_or_none result) self.new.core }
         ensures ended { place.ticket ≡ self.old.ticket → has_ended wants self.old.core.life ≡ true
             → (result ≡ Ok Waited.Again) × (self.new ≡ self.old) }
@@ -167,10 +146,7 @@ impl<K: Eq + Hash + Drop, V: Clone, L: Lifecycle<K, V>, A: Allocator> State<K, V
         ensures told { IfOk result (IsTold place.ticket (IsWanted wants
             (FitsIfClonesDo L.fits V.is_clone (Q.equivalent query.now)))) }
         ensures refused { wants ≡ Wants.End → IfOk result (λ told. is_refused told ≡ false) }
-        ensures same { self.new ≡ record self.old {
-          core = self.new.core;
-          tasks = self.new.tasks;
-        } }
+        ensures same { KeepsKeyAndNext self.old self.new }
         ensures registered { OnErr result (Covers cx.new (λ s. s ≡ source.now.id)) }
         ensures kept { Keeps cx.old cx.new }
         // A pending poll has left its waker in its slot, unless none could be made.
@@ -178,7 +154,7 @@ impl<K: Eq + Hash + Drop, V: Clone, L: Lifecycle<K, V>, A: Allocator> State<K, V
         ensures waker { OnErr result ((cx.new.lacks_waker ≡ true)
             ⊎ HasWaker place.number cx.old self.new.tasks) }
     {
-        let looked = self.look(place, query, wants, false);
+        let looked = self.poll(place, query, wants, false);
         if let Err(place) = &looked {
             let _: Poll<()> = self.tasks.wait(place.number(), source, cx);
         }
@@ -186,73 +162,59 @@ impl<K: Eq + Hash + Drop, V: Clone, L: Lifecycle<K, V>, A: Allocator> State<K, V
     }
 
     /// One comes to load the value or to wait for it. It gets the share of a life that begins, or
-    /// the value; or it is added to those who wait, and gets its place. One whose time is over is
-    /// told what has come, and never waits.
-    pub fn enter<Q: Equivalent<K>>(&mut self, query: &Q, is_over: bool) -> Result<Place, Waited<V>>
-        ensures enters { Enters V.is_clone (Q.equivalent query.now self.old.key) self.old.next is_over
+    /// the value; or it gets its place among those who wait. One whose time is over never waits.
+    pub fn join<Q: Equivalent<K>>(&mut self, query: &Q, is_over: bool) -> Result<Place, Waited<V>>
+        ensures enters { BeginsOrJoins V.is_clone (Q.equivalent query.now self.old.key) self.old.next is_over
             self.old.core (by_number result) self.new.core }
         // Its number is one that nobody had.
-        ensures place { IfOk result (λ place. place ≡ record {
-          ticket = self.old.ticket;
-          number = self.old.next;
-        }) }
+        ensures place { IfOk result
+            (λ place. place ≡ record { ticket = self.old.ticket; number = self.old.next }) }
         ensures next { OnOk result (self.new.next ≡ self.old.next + 1) }
         ensures grows { self.old.next ≤ self.new.next }
         ensures over { is_over ≡ true → IsErr result }
         ensures timely { is_over ≡ false → IfErr result (λ told. is_timeout told ≡ false) }
         ensures told { IfErr result (IsTold self.old.ticket
             (FitsIfClonesDo L.fits V.is_clone (Q.equivalent query.now))) }
-        ensures same { self.new ≡ record self.old {
-          core = self.new.core;
-          tasks = self.new.tasks;
-          next = self.new.next;
-        } }
+        ensures same { KeepsKey self.old self.new }
     {
         if let Some(share) = self.create() {
             return Err(Waited::Guard(share));
         }
         if is_over {
-            return Err(self.look_once(query));
+            return Err(self.poll_at_once(query));
         }
         if self.next == u64::MAX {
             return Err(Waited::Refused(Refusal::TicketsSpent));
         }
-        let (answer, place) = self.join();
-        self.told_newcomer(place, query, answer)
+        let (answer, place) = self.add_waiter();
+        self.told_joiner(place, query, answer)
     }
 
     /// One who comes when its time is over looks once, by a number that it does not keep.
-    fn look_once<Q: Equivalent<K>>(&mut self, query: &Q) -> Waited<V>
-        ensures looks { LooksOnce V.is_clone (Q.equivalent query.now self.old.key) self.old.core
+    fn poll_at_once<Q: Equivalent<K>>(&mut self, query: &Q) -> Waited<V>
+        ensures looks { PollsAtOnce V.is_clone (Q.equivalent query.now self.old.key) self.old.core
             self.old.next result self.new.core }
         ensures told { IsTold self.old.ticket
             (FitsIfClonesDo L.fits V.is_clone (Q.equivalent query.now)) result }
-        ensures same { self.new ≡ record self.old {
-          core = self.new.core;
-          tasks = self.new.tasks;
-        } }
+        ensures same { KeepsKeyAndNext self.old self.new }
     {
-        match self.look_last(Place::new(self.ticket, self.next), query) {
+        match self.poll_last(Place::new(self.ticket, self.next), query) {
             Waited::Again => Waited::Timeout,
-            Waited::Timeout => Waited::Timeout,
-            Waited::Value(value) => Waited::Value(value),
-            Waited::Guard(share) => Waited::Guard(share),
-            Waited::Refused(refusal) => Waited::Refused(refusal),
+            told => told,
         }
     }
 
     /// What one who came to wait is told of the core's answer.
-    fn told_newcomer<Q: Equivalent<K>>(
+    fn told_joiner<Q: Equivalent<K>>(
         &self,
         place: Option<Place>,
         query: &Q,
         answer: Answer<V>,
     ) -> Result<Place, Waited<V>>
         requires gives { is_some place ≡ has_joined answer }
-        requires fits { ClonesFit L.fits V.is_clone
-            → IfSome (shown_by answer) (λ value. L.fits self.now.key value) }
+        requires fits { ShowsFitting L.fits V.is_clone self.now.key answer }
         ensures tells { (n : ℕ) → IfSome place (λ place. place.number ≡ n)
-            → TellsNewcomer (Q.equivalent query.now self.now.key) n answer (by_number result) }
+            → TellsJoiner (Q.equivalent query.now self.now.key) n answer (by_number result) }
         ensures place { IfOk result (λ own. place ≡ Some own) }
         ensures timely { IfErr result (λ told. is_timeout told ≡ false) }
         ensures told { IfErr result (IsTold self.now.ticket
@@ -271,14 +233,7 @@ impl<K: Eq + Hash + Drop, V: Clone, L: Lifecycle<K, V>, A: Allocator> State<K, V
             }
             Answer::Refused(_) => Err(Waited::Refused(Refusal::Memory)),
             Answer::Joined => unreachable!(),
-            Answer::Created => Err(Waited::Again),
-            Answer::Guard => Err(Waited::Again),
-            Answer::Waiting => Err(Waited::Again),
-            Answer::TimedOut => Err(Waited::Again),
-            Answer::HandedTo(_) => Err(Waited::Again),
-            Answer::GivenUp => Err(Waited::Again),
-            Answer::Done => Err(Waited::Again),
-            Answer::NotNow => Err(Waited::Again),
+            _ => Err(Waited::Again),
         }
     }
 }

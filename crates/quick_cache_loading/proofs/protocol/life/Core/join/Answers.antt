@@ -7,8 +7,8 @@ use Rattle.quick_cache_loading.proofs.protocol.life.Core.join.Goals as goal
 -- Who joins neither waits nor was handed the guard.
 pub invariant_of-self-in-Loading : goal.invariant_of-self-in-Loading
 invariant_of-self-in-Loading g c =
-    let added : c.add.new.self ≡ c.self.inside.waiters ++ c.args.waiter ∷ [] = search rules in
+    let added : c.push.new.self.items ≡ c.self.inside.waiters.items ++ c.args.waiter ∷ [] = search rules in
     let other : is_handed_to c.in-Loading.holder c.args.waiter ≡ false = search rules in
-    let absent : has c.args.waiter c.self.inside.waiters ≡ false = search rules in
-    rw (c.in-Loading.is, added) (is_apart-push c.in-Loading.holder c.self.inside.waiters
+    let absent : has c.args.waiter c.self.inside.waiters.items ≡ false = search rules in
+    rw (c.in-Loading.is, added) (is_apart-push c.in-Loading.holder c.self.inside.waiters.items
     c.args.waiter (rw c.in-Loading.is at c.self.invariant) other absent)

@@ -1,5 +1,5 @@
 use Rattle.std.proofs.Common.{◌∙◌, ap}
-use Rattle.quick_cache_loading.specs.declared.waiting.ended.Filled.{Filled}
+use Rattle.quick_cache_loading.specs.declared.waiting.tokens.Filled.{Filled}
 use Rattle.quick_cache_loading.proofs.sharing.placeholder.Placeholder.fill.Goals as goal
 
 -- the state is filled so

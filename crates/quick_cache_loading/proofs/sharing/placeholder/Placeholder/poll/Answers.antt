@@ -6,10 +6,10 @@ use Rattle.quick_cache_loading.proofs.sharing.placeholder.Placeholder.poll.Goals
 pub returns-clause-looks : goal.returns-clause-looks
 returns-clause-looks g c = record {
   old = c.deref_mut.result.now;
-  new = c.poll.new.self;
+  new = c.poll_as_task.new.self;
   holds = record {
-    elsewhere = λ other. ap told_or_none (c.poll.ensures.elsewhere other).0;
-    ended = λ here over. ap told_or_none (c.poll.ensures.ended here over).0;
-    looks = c.poll.ensures.looks;
+    elsewhere = λ other. ap told_or_none (c.poll_as_task.ensures.elsewhere other).0;
+    ended = λ here over. ap told_or_none (c.poll_as_task.ensures.ended here over).0;
+    looks = c.poll_as_task.ensures.looks;
   };
 }

@@ -8,7 +8,7 @@ returns-in-Ok-clause-looks g c =
     let place : c.loop.place ≡ c.args.place = search rules in
     record {
       old = c.deref_mut.result.now;
-      new = c.look.new.self;
+      new = c.poll.new.self;
       holds = rw (← place) (record {
         elsewhere = λ other. ap told_or_none (c.in-Ok.ensures.elsewhere other).0;
         ended = λ here over. ap told_or_none (c.in-Ok.ensures.ended here over).0;

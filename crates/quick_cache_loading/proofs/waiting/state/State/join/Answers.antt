@@ -1,45 +1,44 @@
-use Rattle.std.proofs.Common.{◌≡◌, ◌∙◌, ap, sym, rules}
-use Rattle.quick_cache_loading.specs.Tasks.{with_slot}
-use Rattle.quick_cache_loading.proofs.waiting.SlotLemmas.{joined, not-joined, slot-back}
-use Rattle.quick_cache_loading.proofs.waiting.TaskLemmas.{joined-other}
+use Rattle.std.proofs.Common.{◌≡◌, rules}
+use Rattle.quick_cache_loading.specs.LoadingStep.{LoadingStep}
+use Rattle.quick_cache_loading.specs.Joining.{BeginsOrJoins}
+use Rattle.quick_cache_loading.specs.declared.protocol.events.Event.{Event}
+use Rattle.quick_cache_loading.specs.declared.protocol.events.Answer.{Answer}
+use Rattle.quick_cache_loading.proofs.waiting.JoinLemmas.{went_on, came}
 use Rattle.quick_cache_loading.proofs.waiting.state.State.join.Goals as goal
 
--- who joins has the last slot, by a number that nobody had
-pub invariant_of-self-in-Joined : goal.invariant_of-self-in-Joined
-invariant_of-self-in-Joined g c =
-    let added : c.add.new.self ≡ with_slot c.self.inside.next c.self.inside.tasks = search rules in (
-      search rules,
-      search rules,
-      search rules,
-      rw added (joined c.self.inside.next c.self.inside.tasks c.self.inside.core
-          c.step-answer.result c.step-answer.new.core g.V.Clone.is_clone c.self.inside.core.life
-          c.in-Joined.is c.step-answer.ensures.step c.self.invariant.3),
-    )
+-- a share comes where a life began
+pub returns-in-Some-clause-enters : goal.returns-in-Some-clause-enters
+returns-in-Some-clause-enters g c =
+    BeginsOrJoins.begins c.in-Some.share c.create.new.self.core c.in-Some.ensures.event
 
--- who does not join changes nothing, and its slot is gone
-pub invariant_of-self-in_default : goal.invariant_of-self-in_default
-invariant_of-self-in_default g c =
-    let core =
-    not-joined c.self.inside.next c.self.inside.tasks c.self.inside.core c.step-answer.result
-    c.step-answer.new.core g.V.Clone.is_clone c.self.inside.core.life c.in_default.not-Joined
-    c.step-answer.ensures.step in
-    let slots =
-    slot-back c.self.inside.next c.self.inside.tasks c.self.inside.core.life c.add.new.self
-    c.wake.new.self (search rules) c.wake.ensures c.self.invariant.3 in
-    rw (core, slots) c.self.invariant
+-- where none comes, the life went on
+pub returns-then-is_over-clause-enters : goal.returns-then-is_over-clause-enters
+returns-then-is_over-clause-enters g c =
+    let step : LoadingStep g.V.Clone.is_clone c.args.self.now.core Event.Create Answer.NotNow
+    c.create.new.self.core = search rules in
+    let on = went_on _ _ c.args.self.now.core.life step in
+    let key : c.create.new.self.key ≡ c.args.self.now.key = search rules in
+    let next : c.create.new.self.next ≡ c.args.self.now.next = search rules in
+    BeginsOrJoins.polls_at_once _ _ c.if-is_over.true (rw on at step)
+    (rw (key, on, next) at c.poll_at_once.ensures.looks)
 
-pub returns-in_default : goal.returns-in_default
-returns-in_default g c =
-    let slots =
-    slot-back c.self.inside.next c.self.inside.tasks c.self.inside.core.life c.add.new.self
-    c.wake.new.self (search rules) c.wake.ensures c.self.invariant.3 in
-    record {
-      event = search rules;
-      gives = sym (joined-other c.step-answer.result c.in_default.not-Joined);
-      place = tt;
-      joined = search rules;
-      alone =
-          (ap (λ s. s.next) c.self.view_is, slots ∙ ap (λ s. s.tasks) c.self.view_is);
-      same = search rules;
-      fits = search rules;
-    }
+pub returns-clause-enters : goal.returns-clause-enters
+returns-clause-enters g c =
+    let step : LoadingStep g.V.Clone.is_clone c.args.self.now.core Event.Create Answer.NotNow
+    c.create.new.self.core = search rules in
+    let on = went_on _ _ c.args.self.now.core.life step in
+    let next : c.create.new.self.next ≡ c.args.self.now.next = search rules in
+    let key : c.add_waiter-answer.new.self.key ≡ c.args.self.now.key = search rules in
+    let tells = c.told_joiner.ensures.tells c.create.new.self.next (search rules) in
+    came _ _ _ _ _ c.add_waiter-answer.result.0 _ c.create.new.self.core c.add_waiter-answer.new.self.core
+    c.if-is_over.false (rw on at step) on (rw next at c.add_waiter-answer.ensures.event)
+    (rw (key, next) at tells)
+
+-- or no number is left
+pub returns-then-self-clause-enters : goal.returns-then-self-clause-enters
+returns-then-self-clause-enters g c =
+    let step : LoadingStep g.V.Clone.is_clone c.args.self.now.core Event.Create Answer.NotNow
+    c.create.new.self.core = search rules in
+    let on = went_on _ _ c.args.self.now.core.life step in
+    let next : c.self.inside.next ≡ c.args.self.now.next = search rules in
+    rw on (BeginsOrJoins.all_spent (rw next at c.if-self.true) c.if-is_over.false (rw on at step))
