@@ -17,6 +17,21 @@ use Rattle.quick_cache_locked.specs.Walks.{ClonesNext, TakesNext}
 abbrev pub Standing : Type 0
 Standing = ℕ × Option Token
 
+-- in the first shard, before its items
+abbrev pub beginning : Standing
+beginning = (0, None)
+
+-- what a contract sees of a walk: how many shards there are, and where it stands
+pub record Walk : Type 0 where
+  pub shards : ℕ
+  pub at : Standing
+
+-- what a contract sees of a walk that takes out what a predicate wants
+pub record WantingWalk (F : Type 0) : Type 0 where
+  pub shards : ℕ
+  pub at : Standing
+  pub wanted : F
+
 -- from there it comes to this shard, behind this number: it goes on in its own, or begins a later one
 abbrev pub ComesTo : Standing → (shard after : ℕ) → Type 0
 ComesTo old shard after = ((shard ≡ old.0) × (after ≡ number_or_zero old.1))
@@ -24,20 +39,20 @@ ComesTo old shard after = ((shard ≡ old.0) × (after ≡ number_or_zero old.1)
 
 module _ {K V L S : Type 0} (life : lifecycle.Ghosts L K V S) (equal : K → K → Bool) where
   -- this was true of each shard before that one, behind where the walk came to it
-  abbrev pub IsSoUpTo : {We B : Type 0} → (Shard K V We B L → (after : ℕ) → Type 0) → Standing
+  abbrev pub HoldsUpTo : {We B : Type 0} → (Shard K V We B L → (after : ℕ) → Type 0) → Standing
       → (next : ℕ) → Type 0
-  IsSoUpTo {We} {B} is_so old next = (place after : ℕ) → ComesTo old place after → place < next
-      → FromSome life equal (λ (shard : Shard K V We B L). is_so shard after)
+  HoldsUpTo {We} {B} holds old next = (place after : ℕ) → ComesTo old place after → place < next
+      → FromSome life equal (λ (shard : Shard K V We B L). holds shard after)
 
   -- each shard before this one, from where the walk stood, had no item behind where it came to it
   abbrev pub EndsUpTo : (We B : Type 0) → Standing → (next : ℕ) → Type 0
-  EndsUpTo We B = IsSoUpTo (λ (shard : Shard K V We B L) after. EndsAt shard.places after)
+  EndsUpTo We B = HoldsUpTo (λ (shard : Shard K V We B L) after. EndsAt shard.places after)
 
   -- none of the items that it had there was wanted
   abbrev pub WantsNoneUpTo : (We B : Type 0) → (answers : K → V → Bool → Type 0) → Standing
       → (next : ℕ) → Type 0
   WantsNoneUpTo We B answers =
-      IsSoUpTo (λ (shard : Shard K V We B L) after. WantsNone answers after shard)
+      HoldsUpTo (λ (shard : Shard K V We B L) after. WantsNone answers after shard)
 
   -- A pair that is shown is a clone of the next item of some shard, behind where the walk came to it;
   -- and there the walk stands afterwards.
@@ -87,6 +102,6 @@ TakenFits life answer =
     IfSome answer (λ pair. life.fits pair.0 pair.1)
 
 -- there are no more items to come than tokens are left in these shards
-abbrev pub tokens_ahead : (shards shard after : ℕ) → Count
-tokens_ahead shards shard after =
-    at_most ((shards - shard) * 4294967296 + (4294967296 - after))
+abbrev pub tokens_ahead : (shards : ℕ) → Standing → Count
+tokens_ahead shards at =
+    at_most ((shards - at.0) * 4294967296 + (4294967296 - number_or_zero at.1))

@@ -1,12 +1,14 @@
 //! Takes the items out of the shared cache that a predicate wants, one after another.
 ghost use Rattle.std.specs.Prelude.{◌≡◌, Some, codes};
 ghost use Rattle.quick_cache_locked.specs.Asked.{MayBeAskedOfFitting};
+ghost use Rattle.quick_cache_sync.specs.Walks.{beginning};
 
 use crate::cache::Cache;
 use quick_cache_model::{Lifecycle, Token};
 use std::alloc::{Allocator, Global};
 use std::fmt::{Debug, Formatter, Write};
 use std::hash::{BuildHasher, Hash};
+use std::marker::Model;
 use std::sync::Wait;
 
 /// Takes out what a predicate wants, each item as its pair, shard after shard. Each step takes the
@@ -40,12 +42,33 @@ impl<
     B: BuildHasher,
     L: Lifecycle<K, V>,
     R: Wait,
+    F,
+    A: Allocator,
+> Model for ExtractIf<'a, K, V, We, B, L, R, F, A> {
+    ghost use Rattle.quick_cache_sync.specs.Walks.{WantingWalk};
+
+    ghost Value = { WantingWalk F };
+
+    ghost view = { λ walk. record {
+      shards = walk.cache.now.shards;
+      at = (walk.shard, walk.after);
+      wanted = walk.wanted;
+    } };
+}
+
+impl<
+    'a,
+    K: Eq + Hash + Drop,
+    V: Drop,
+    We,
+    B: BuildHasher,
+    L: Lifecycle<K, V>,
+    R: Wait,
     F: Fn(&K, &V) -> bool,
     A: Allocator,
 > Iterator for ExtractIf<'a, K, V, We, B, L, R, F, A> {
     ghost use Rattle.std.specs.Prelude.{◌≡◌, ◌≤◌, IfNone};
     ghost use Rattle.quick_cache_shard.specs.Predicates.{Answers};
-    ghost use Rattle.quick_cache_shard.specs.WalksFrom.{number_or_zero};
     ghost use Rattle.quick_cache_sync.specs.Walks.{TakenFits, TakesWantedPair, WantsNoneUpTo, tokens_ahead};
 
     type Item = (K, V);
@@ -55,16 +78,14 @@ impl<
     // Whatever other threads do, a pair that is taken is that of the next item which was wanted, and
     // fits. In each shard that it passed no more was wanted, and it ends only behind the last one.
     ghost next_gives = { λ old answer new.
-        TakesWantedPair L.Lifecycle K.eq We B (Answers F.Fn old.wanted) (old.shard, old.after) answer
-        (new.shard, new.after)
+        TakesWantedPair L.Lifecycle K.eq We B (Answers F.Fn old.wanted) old.at answer new.at
         × TakenFits L.Lifecycle answer
-        × WantsNoneUpTo L.Lifecycle K.eq We B (Answers F.Fn old.wanted) (old.shard, old.after)
-        new.shard
-        × IfNone answer (old.cache.now.shards ≤ new.shard)
+        × WantsNoneUpTo L.Lifecycle K.eq We B (Answers F.Fn old.wanted) old.at new.at.0
+        × IfNone answer (old.shards ≤ new.at.0)
+        × (new.shards ≡ old.shards)
         × (new.wanted ≡ old.wanted) };
 
-    ghost remaining = { λ walk. tokens_ahead walk.cache.now.shards walk.shard
-        (number_or_zero walk.after) };
+    ghost remaining = { λ walk. tokens_ahead walk.shards walk.at };
 
     fn next(&mut self) -> Option<(K, V)> {
         let cache = self.cache;
@@ -124,6 +145,8 @@ impl<K: Eq + Hash + Drop, V: Drop, We, B: BuildHasher, L: Lifecycle<K, V>, A: Al
     ) -> ExtractIf<'a, K, V, We, B, L, R, F, A>
         // The pairs that the predicate sees fit.
         requires callable { MayBeAskedOfFitting L.fits F.Fn wanted }
+        ensures begins { result.at ≡ beginning }
+        ensures shards { result.shards ≡ self.now.shards }
         ensures asks { result.wanted ≡ wanted }
     {
         ExtractIf {

@@ -1,5 +1,6 @@
 //! Walks over the shared cache, one item a step, and no lock is held between the steps.
 ghost use Rattle.std.specs.Prelude.{◌≡◌};
+ghost use Rattle.quick_cache_sync.specs.Walks.{beginning};
 
 use crate::cache::Cache;
 use quick_cache_model::{Lifecycle, Refusal};
@@ -7,6 +8,7 @@ use quick_cache_shard::Token;
 use std::alloc::{Allocator, Global};
 use std::fmt::{Debug, Formatter, Write};
 use std::hash::{BuildHasher, Hash};
+use std::marker::Model;
 use std::sync::Wait;
 
 /// Shows the items, each as clones of its key and its value, shard after shard. Each step takes the
@@ -33,6 +35,26 @@ pub struct Iter<
 
 impl<
     'a,
+    K: Eq + Hash + Drop,
+    V: Drop,
+    We,
+    B: BuildHasher,
+    L: Lifecycle<K, V>,
+    R: Wait,
+    A: Allocator,
+> Model for Iter<'a, K, V, We, B, L, R, A> {
+    ghost use Rattle.quick_cache_sync.specs.Walks.{Walk};
+
+    ghost Value = { Walk };
+
+    ghost view = { λ walk. record {
+      shards = walk.cache.now.shards;
+      at = (walk.shard, walk.after);
+    } };
+}
+
+impl<
+    'a,
     K: Eq + Hash + Clone + Drop,
     V: Clone,
     We,
@@ -41,6 +63,7 @@ impl<
     R: Wait,
     A: Allocator,
 > Iterator for Iter<'a, K, V, We, B, L, R, A> {
+    ghost use Rattle.std.specs.Prelude.{◌≡◌};
     ghost use Rattle.quick_cache_sync.specs.Walks.{EndsOrRefuses, EndsUpTo, ShowsPair, ShownFits};
 
     type Item = Result<(K, V), Refusal>;
@@ -48,11 +71,11 @@ impl<
     // Whatever other threads do, a pair that is shown is that of the next place, and fits. Each shard
     // that it passed had no more, and it ends only behind the last one.
     ghost next_gives = { λ old answer new.
-        ShowsPair L.Lifecycle K.eq We B K.is_clone V.is_clone (old.shard, old.after) answer
-        (new.shard, new.after)
+        ShowsPair L.Lifecycle K.eq We B K.is_clone V.is_clone old.at answer new.at
         × ShownFits L.Lifecycle K.eq K.is_clone V.is_clone answer
-        × EndsUpTo L.Lifecycle K.eq We B (old.shard, old.after) new.shard
-        × EndsOrRefuses old.cache.now.shards answer (new.shard, new.after) };
+        × EndsUpTo L.Lifecycle K.eq We B old.at new.at.0
+        × EndsOrRefuses old.shards answer new.at
+        × (new.shards ≡ old.shards) };
 
     fn next(&mut self) -> Option<Result<(K, V), Refusal>> {
         let cache = self.cache;
@@ -128,9 +151,28 @@ impl<
     L: Lifecycle<K, V>,
     R: Wait,
     A: Allocator,
+> Model for Drain<'a, K, V, We, B, L, R, A> {
+    ghost use Rattle.quick_cache_sync.specs.Walks.{Walk};
+
+    ghost Value = { Walk };
+
+    ghost view = { λ walk. record {
+      shards = walk.cache.now.shards;
+      at = (walk.shard, walk.after);
+    } };
+}
+
+impl<
+    'a,
+    K: Eq + Hash + Drop,
+    V: Drop,
+    We,
+    B: BuildHasher,
+    L: Lifecycle<K, V>,
+    R: Wait,
+    A: Allocator,
 > Iterator for Drain<'a, K, V, We, B, L, R, A> {
-    ghost use Rattle.std.specs.Prelude.{◌≤◌, IfNone};
-    ghost use Rattle.quick_cache_shard.specs.WalksFrom.{number_or_zero};
+    ghost use Rattle.std.specs.Prelude.{◌≡◌, ◌≤◌, IfNone};
     ghost use Rattle.quick_cache_sync.specs.Walks.{EndsUpTo, TakesPair, TakenFits, tokens_ahead};
 
     type Item = (K, V);
@@ -138,13 +180,13 @@ impl<
     // Whatever other threads do, a pair that is taken is that of the next place, and fits. Each shard
     // that it passed had no more, and it ends only behind the last one.
     ghost next_gives = { λ old answer new.
-        TakesPair L.Lifecycle K.eq We B (old.shard, old.after) answer (new.shard, new.after)
+        TakesPair L.Lifecycle K.eq We B old.at answer new.at
         × TakenFits L.Lifecycle answer
-        × EndsUpTo L.Lifecycle K.eq We B (old.shard, old.after) new.shard
-        × IfNone answer (old.cache.now.shards ≤ new.shard) };
+        × EndsUpTo L.Lifecycle K.eq We B old.at new.at.0
+        × IfNone answer (old.shards ≤ new.at.0)
+        × (new.shards ≡ old.shards) };
 
-    ghost remaining = { λ drain. tokens_ahead drain.cache.now.shards drain.shard
-        (number_or_zero drain.after) };
+    ghost remaining = { λ drain. tokens_ahead drain.shards drain.at };
 
     fn next(&mut self) -> Option<(K, V)> {
         let cache = self.cache;
@@ -196,7 +238,10 @@ impl<K: Eq + Hash + Drop, V: Drop, We, B: BuildHasher, L: Lifecycle<K, V>, A: Al
     A,
 > {
     /// A walk over the items, which shows clones of them, one a step. It takes no lock itself.
-    pub fn iter<'a, R: Wait>(&'a self, rt: &'a R) -> Iter<'a, K, V, We, B, L, R, A> {
+    pub fn iter<'a, R: Wait>(&'a self, rt: &'a R) -> Iter<'a, K, V, We, B, L, R, A>
+        ensures begins { result.at ≡ beginning }
+        ensures shards { result.shards ≡ self.now.shards }
+    {
         Iter {
             cache: self,
             rt,
@@ -206,7 +251,10 @@ impl<K: Eq + Hash + Drop, V: Drop, We, B: BuildHasher, L: Lifecycle<K, V>, A: Al
     }
 
     /// A walk that takes the items out, one a step. It takes no lock itself.
-    pub fn drain<'a, R: Wait>(&'a self, rt: &'a R) -> Drain<'a, K, V, We, B, L, R, A> {
+    pub fn drain<'a, R: Wait>(&'a self, rt: &'a R) -> Drain<'a, K, V, We, B, L, R, A>
+        ensures begins { result.at ≡ beginning }
+        ensures shards { result.shards ≡ self.now.shards }
+    {
         Drain {
             cache: self,
             rt,

@@ -1,24 +1,29 @@
 use Rattle.std.proofs.Common.{◌<◌, ◌≤◌, Some, refl, ap, sym, subst, inl, arith}
+use Rattle.std.specs.Iterator.{size}
 use Rattle.std.specs.Int.NonZero.{non_zero_u32_get as number}
 use Rattle.quick_cache_shard.specs.Predicates.{Answers}
 use Rattle.quick_cache_shard.specs.TakesWanted.{TakesNextWanted, WantsNone}
 use Rattle.quick_cache_shard.specs.WalksFrom.{number_or_zero}
 use Rattle.quick_cache_locked.specs.Asked.{MayBeAskedOfFitting}
 use Rattle.quick_cache_sync.specs.Shards.{Division}
-use Rattle.quick_cache_sync.specs.Walks.{ComesTo, Standing, WantsNoneUpTo}
-use Rattle.quick_cache_sync.proofs.WalkLemmas.{ComesTo-next, IsSoUpTo-first, IsSoUpTo-next, tokens_ahead-farther, tokens_ahead-nearer}
+use Rattle.quick_cache_sync.specs.Walks.{ComesTo, Standing, WantsNoneUpTo, tokens_ahead}
+use Rattle.quick_cache_sync.proofs.WalkLemmas.{ComesTo-next, HoldsUpTo-first, HoldsUpTo-next, tokens_ahead-farther, tokens_ahead-nearer}
 use Rattle.quick_cache_sync.proofs.calls.extracting.ExtractIfIterator.next.Goals as goal
 
 pub loop-index-init : goal.loop-index-init
-loop-index-init g c = record {
-  cache = refl;
-  wanted = refl;
-  at = refl;
-  ahead = omega arith;
-  comes = inl (refl, refl);
-  none = IsSoUpTo-first g.L.Lifecycle g.K.PartialEq.eq _
-      (c.args.self.now.shard, c.args.self.now.after);
-}
+loop-index-init g c =
+    let standing = ap (λ walk. walk.at) c.self.view_is in
+    let first : Standing = (c.self.inside.shard, c.self.inside.after) in record {
+      shards = ap (λ walk. walk.shards) c.self.view_is;
+      wanted = ap (λ walk. walk.wanted) c.self.view_is;
+      at = refl;
+      ahead = subst (λ at. size (tokens_ahead c.args.self.now.shards first)
+          ≤ size (tokens_ahead c.args.self.now.shards at)) standing (omega arith);
+      comes = subst (λ at. ComesTo at first.0 (number_or_zero first.1)) standing (inl (refl, refl));
+      none = subst (λ at. WantsNoneUpTo g.L.Lifecycle g.K.PartialEq.eq g.row.We.Denot
+          g.row.B.Denot (Answers g.F.Fn c.args.self.now.wanted) at first.0) standing
+          (HoldsUpTo-first g.L.Lifecycle g.K.PartialEq.eq _ first);
+    }
 
 -- the predicate is as at first
 pub take_next_if-step-requires : goal.take_next_if-step-requires
@@ -29,8 +34,8 @@ take_next_if-step-requires g c = record {
 
 pub returns-in-Some-clause-steps : goal.returns-in-Some-clause-steps
 returns-in-Some-clause-steps g c =
-    let old : Standing = (c.args.self.now.shard, c.args.self.now.after) in
-    let after = number_or_zero c.loop-index.self.after in
+    let old = c.args.self.now.at in
+    let after = number_or_zero c.loop-index.self-inside.after in
     let invariant = c.loop-index.invariant in (
       (
         c.in-Some.token,
@@ -53,6 +58,7 @@ returns-in-Some-clause-steps g c =
       subst (λ shard. WantsNoneUpTo g.L.Lifecycle g.K.PartialEq.eq g.row.We.Denot g.row.B.Denot
           (Answers g.F.Fn c.args.self.now.wanted) old shard) invariant.at invariant.none,
       tt,
+      invariant.shards,
       invariant.wanted,
     )
 
@@ -67,10 +73,9 @@ returns-in-Some-clause-goes g c =
       on = λ finite. (
         can,
         finite,
-        tokens_ahead-nearer c.args.self.now.cache.now.shards c.loop-index.self.cache.now.shards
-            c.args.self.now.shard (number_or_zero c.args.self.now.after) c.loop-index.self.shard
-            (number_or_zero c.loop-index.self.after) c.loop-index.index (number c.in-Some.token)
-            (ap (λ cache. cache.now.shards) invariant.cache) invariant.at
+        tokens_ahead-nearer c.args.self.now.shards c.loop-index.self-inside.cache.now.shards
+            c.args.self.now.at (c.loop-index.self-inside.shard, c.loop-index.self-inside.after)
+            c.loop-index.index c.in-Some.token invariant.shards invariant.at
             c.in-Some.ensures.takes.first.above within invariant.ahead,
       );
       keeps = can;
@@ -80,25 +85,25 @@ returns-in-Some-clause-goes g c =
 -- the next shard begins anew, and in the one before no more was wanted
 pub loop-index-preserved : goal.loop-index-preserved
 loop-index-preserved g c =
-    let old : Standing = (c.args.self.now.shard, c.args.self.now.after) in
-    let after = number_or_zero c.loop-index.self.after in
+    let old = c.args.self.now.at in
+    let now : Standing = (c.loop-index.self-inside.shard, c.loop-index.self-inside.after) in
+    let after = number_or_zero now.1 in
     let invariant = c.loop-index.invariant in
-    let below : c.loop-index.index < c.args.self.now.cache.now.shards =
+    let below : c.loop-index.index < c.args.self.now.shards =
     omega (
       arith,
       c.loop-index-test.true,
       c.len-index-end.ensures,
       ap (λ (d : Division _). d.shards) c.cache.view_is,
+      ap (λ walk. walk.shards) c.self.view_is,
     ) in record {
-      cache = invariant.cache;
+      shards = invariant.shards;
       wanted = invariant.wanted;
       at = refl;
-      ahead = tokens_ahead-farther c.args.self.now.cache.now.shards c.args.self.now.shard
-          (number_or_zero c.args.self.now.after) c.loop-index.self.shard after
-          c.loop-index.index invariant.at below invariant.ahead;
-      comes = ComesTo-next old c.loop-index.self.shard after c.loop-index.index invariant.at
-          invariant.comes;
-      none = IsSoUpTo-next g.L.Lifecycle g.K.PartialEq.eq _ old c.loop-index.self.shard after
+      ahead = tokens_ahead-farther c.args.self.now.shards old now c.loop-index.index invariant.at
+          below invariant.ahead;
+      comes = ComesTo-next old now.0 after c.loop-index.index invariant.at invariant.comes;
+      none = HoldsUpTo-next g.L.Lifecycle g.K.PartialEq.eq _ old now.0 after
           c.loop-index.index invariant.at invariant.comes
           (record {
             shard = c.deref_mut.result.now;
@@ -120,6 +125,8 @@ returns-clause-steps g c = (
     c.loop-index.invariant.at,
     c.len-index-end.ensures,
     ap (λ (d : Division _). d.shards) c.cache.view_is,
+    ap (λ walk. walk.shards) c.self.view_is,
   ),
+  c.loop-index.invariant.shards,
   c.loop-index.invariant.wanted,
 )

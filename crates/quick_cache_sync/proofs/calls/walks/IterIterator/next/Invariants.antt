@@ -5,6 +5,10 @@ use Rattle.quick_cache_sync.proofs.calls.walks.IterIterator.next.Given as goal
 
 -- the walk has come to the next shard
 abbrev pub invariant-loop-index : goal.invariant-loop-index
-invariant-loop-index g l = (l.self.cache ≡ l.fn.self.cache) × (l.self.shard ≡ l.index)
-    × ComesTo (l.fn.self.shard, l.fn.self.after) l.self.shard (number_or_zero l.self.after)
-    × EndsUpTo g.L.Lifecycle g.K.PartialEq.eq g.row.We.Denot g.row.B.Denot (l.fn.self.shard, l.fn.self.after) l.self.shard
+invariant-loop-index g l = record {
+  shards : l.self-inside.cache.now.shards ≡ l.fn.self.shards;
+  at : l.self-inside.shard ≡ l.index;
+  comes : ComesTo l.fn.self.at l.self-inside.shard (number_or_zero l.self-inside.after);
+  ends : EndsUpTo g.L.Lifecycle g.K.PartialEq.eq g.row.We.Denot g.row.B.Denot l.fn.self.at
+      l.self-inside.shard;
+}
