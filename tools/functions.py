@@ -98,7 +98,7 @@ def without_angles(head):
 
 def owner_of(kind, head):
     """The type or the trait whose methods an item has."""
-    head = without_angles(head).split(" where ")[0]
+    head = re.split(r"\swhere\s", without_angles(head))[0]
     if kind == "impl" and " for " in f" {head} ":
         head = head.split(" for ")[-1]
     names = re.findall(r"\w+", head.split(":")[0] if kind == "trait" else head)

@@ -6,10 +6,7 @@ ghost use Rattle.quick_cache_listeners.specs.Kept.{Keeps};
 use crate::causes::cause::Cause;
 use crate::causes::listener::ListenerWhy;
 use crate::listener::Listener;
-use std::alloc::{Allocator, Global};
 use std::marker::Model;
-use std::sync::Arc;
-use std::sync::atomic::{AtomicU64, Ordering};
 
 /// The pairs that left in a call, in the order in which they left.
 ///
@@ -130,42 +127,32 @@ impl<K: Drop, V: Drop> ListenerWhy<K, V> for Collect {
     }
 }
 
-/// Keeps what leaves as [`Collect`] does, and counts for all calls together what was lost. So a write
-/// that was handed no list, as `insert` in the place of `insert_with_lifecycle`, is seen: the count
-/// is no longer 0. A clone counts into the same counter.
-#[derive(Clone, Drop)]
-pub struct CollectOrCount<A: Allocator = Global> {
-    /// How many pairs were dropped, since there was no list, or no memory for one more.
-    pub lost: Arc<AtomicU64, A>,
-}
+/// Does as the inner listener, with a state that is owed to the caller: it is not `Drop`. So a call
+/// that makes a request state of its own, as `insert`, does not compile, and of a state that is handed
+/// to a call nobody can lose sight.
+#[derive(Debug, Clone, Default, Drop)]
+pub struct Owing<L>(pub L);
 
-impl<A: Allocator> CollectOrCount<A> {
-    // Counts a pair where more are lost than before.
-    fn count(&self, before: u64, after: u64) {
-        if before != after {
-            self.lost.fetch_add(1, Ordering::Relaxed);
-        }
+/// A state that its holder takes apart, `let Owed(state) = owed;`, since it cannot be let go.
+#[derive(Debug, Default)]
+pub struct Owed<S>(pub S);
+
+impl<K, V, L: Listener<K, V>> Listener<K, V> for Owing<L> {
+    type State = Owed<L::State>;
+
+    ghost tells = { λ owing old key value new. L.tells owing.0 old.0 key value new.0 };
+
+    fn tell(&self, state: &mut Owed<L::State>, key: K, val: V) {
+        self.0.tell(&mut state.0, key, val);
     }
 }
 
-impl<K: Drop, V: Drop, A: Allocator> Listener<K, V> for CollectOrCount<A> {
-    type State = Collected<K, V>;
+impl<K, V, L: ListenerWhy<K, V>> ListenerWhy<K, V> for Owing<L> {
+    type State = Owed<L::State>;
 
-    ghost tells = { λ _. Keeps };
+    ghost tells = { λ owing old key value cause new. L.tells owing.0 old.0 key value cause new.0 };
 
-    fn tell(&self, state: &mut Collected<K, V>, key: K, val: V) {
-        let before = state.lost();
-        Listener::tell(&Collect, state, key, val);
-        self.count(before, state.lost());
-    }
-}
-
-impl<K: Drop, V: Drop, A: Allocator> ListenerWhy<K, V> for CollectOrCount<A> {
-    type State = Collected<K, (V, Cause)>;
-
-    ghost tells = { λ _ old key value cause new. Keeps old key (value, cause) new };
-
-    fn tell(&self, state: &mut Collected<K, (V, Cause)>, key: K, val: V, cause: Cause) {
-        Listener::tell(self, state, key, (val, cause));
+    fn tell(&self, state: &mut Owed<L::State>, key: K, val: V, cause: Cause) {
+        self.0.tell(&mut state.0, key, val, cause);
     }
 }

@@ -20,6 +20,6 @@ pub use causes::counted_by_threads::CountedByThreads;
 pub use causes::listener::{ListenerWhy, OnLeaveWhy, Request};
 pub use causes::taken::TellsTaken;
 pub use causes::tallies::{SharedTallies, Tallies, Tally};
-pub use collect::{Collect, CollectOrCount, Collected};
+pub use collect::{Collect, Collected, Owed, Owing};
 pub use listener::{Ignore, Listener, OnLeave};
 pub use pins::{Held, Pin, PinBy, PinHeld};

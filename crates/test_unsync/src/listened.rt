@@ -2,8 +2,8 @@
 //! and counts.
 use quick_cache_base::{DefaultHashBuilder, UnitWeighter};
 use quick_cache_listeners::{
-    ByLength, Cause, Collect, CollectOrCount, Collected, Counted, Counts, Held, Ignore,
-    ListenerWhy, OnLeave, OnLeaveWhy, PinHeld, Request, SharedTallies, Tally, TellsTaken,
+    ByLength, Cause, Collect, Collected, Counted, Counts, Held, Ignore, ListenerWhy, OnLeave,
+    OnLeaveWhy, Owed, Owing, PinHeld, Request, SharedTallies, Tally, TellsTaken,
 };
 use quick_cache_unsync::{Cache, DefaultLifecycle};
 use std::alloc::Global;
@@ -12,7 +12,6 @@ use std::ops::Range;
 use std::process::Abort;
 use std::rc::Rc;
 use std::sync::Arc;
-use std::sync::atomic::{AtomicU64, Ordering};
 use test_tools::{expect_eq, expect_ok};
 
 /// Numbers that threads hold, each of which stays while one of them does.
@@ -92,23 +91,36 @@ fn a_put_tells_why_each_pair_left(rt: HostRuntime) {
 }
 
 #[test]
-fn a_write_that_drops_its_state_is_seen(rt: HostRuntime) {
-    let lost = expect_ok!(rt; Arc::new(rt.alloc(), AtomicU64::new(0)));
-    let listener = CollectOrCount {
-        lost: expect_ok!(rt; lost.clone()),
-    };
+fn what_leaves_is_owed_until_its_state_is_taken_apart(rt: HostRuntime) {
     let builder = DefaultHashBuilder::new();
-    let mut cache =
-        expect_ok!(rt; Cache::with(rt.alloc(), 2, 2, UnitWeighter, builder, OnLeave(listener)));
-    let mut left = Collected::with(Vec::new(rt.alloc()));
-    for (key, is_told, count) in [(1, false, 0), (2, true, 0), (3, true, 0), (4, false, 1)] {
-        let is_in = if is_told {
-            cache.insert_with_lifecycle(key, 7, &mut left).is_ok()
-        } else {
-            cache.insert(key, 7).is_ok()
-        };
-        expect_eq!(rt; (is_in, lost.load(Ordering::Relaxed)), (true, count));
+    let owing = OnLeaveWhy(Owing(Collect));
+    let mut cache = expect_ok!(rt; Cache::with(rt.alloc(), 2, 2, UnitWeighter, builder, owing));
+    let mut owed = Request::with(Owed(Collected::with(Vec::new(rt.alloc()))));
+    for (key, value) in [(1, 10), (2, 20), (3, 30)] {
+        owed.begin();
+        expect_eq!(rt; cache.insert_with_lifecycle(key, value, &mut owed), Ok(()));
     }
+    owed.begin();
+    if let Ok(Err(guard)) = cache.get_ref_or_guard(&4) {
+        guard.insert_with_lifecycle(40, &mut owed);
+    }
+    owed.begin();
+    expect_eq!(rt; cache.replace_with_lifecycle(4, 41, false, &mut owed), Ok(()));
+    owed.begin();
+    cache.set_capacity_with_lifecycle(0, &mut owed);
+    let Request {
+        state: Owed(left),
+        stage: _,
+    } = owed;
+    let pairs = left.into_pairs().unwrap_or(Vec::new(rt.alloc()));
+    let told = [
+        (2, (20, Cause::EvictedCold)),
+        (3, (30, Cause::EvictedCold)),
+        (4, (40, Cause::Replaced)),
+        (1, (10, Cause::EvictedHot)),
+        (4, (41, Cause::EvictedHot)),
+    ];
+    expect_eq!(rt; pairs.as_slice(), &told);
 }
 
 /// Counts what leaves, by the length of its text, and does nothing else.

@@ -1,21 +1,15 @@
 //! A block store that writes back: what was written in memory goes to the disk where it leaves.
-use quick_cache_listeners::{ByBytes, Collect, Collected, OnLeave, PinHeld, WithBytes};
+use quick_cache_listeners::{ByBytes, Collect, Collected, OnLeave, Owed, Owing, PinHeld};
 use quick_cache_sync::Cache;
-use quick_cache_unsync::DefaultHashBuilder;
+use quick_cache_unsync::{DefaultHashBuilder, Refusal};
 use std::alloc::Global;
 use std::collections::BTreeMap;
-use std::io::{self, ErrorKind};
+use std::io;
 use std::sync::{Arc, Mutex, Wait};
 
-/// What a block has, and whether the disk has something else.
-#[derive(Drop)]
-pub struct Block {
-    pub data: Vec<u8>,
-    pub is_dirty: bool,
-}
-
-/// A block with its weight. While somebody holds a handle beside the cache's, it stays in memory.
-pub type Handle = Arc<WithBytes<Block>>;
+/// What a block has, and whether it is dirty: the disk has something else, or nothing. While
+/// somebody holds a handle beside the cache's, the block stays in memory.
+pub type Block = Arc<(Vec<u8>, bool)>;
 
 /// What was written, by the numbers of the blocks.
 type Disk = BTreeMap<u64, Vec<u8>>;
@@ -23,87 +17,70 @@ type Disk = BTreeMap<u64, Vec<u8>>;
 /// Blocks in memory by their numbers, above those on a disk. What comes in comes under the lock of
 /// the disk, and the dirty blocks that leave for it are written before the lock is let go. So who
 /// does not find a block in memory finds it on the disk as it was when it left.
+///
+/// What leaves is owed: a call that would forget it, as `insert`, does not compile.
 #[derive(Drop)]
 pub struct Blockstore {
     alloc: Global,
-    blocks: Cache<u64, Handle, ByBytes, DefaultHashBuilder, PinHeld<OnLeave<Collect>>>,
+    blocks: Cache<u64, Block, ByBytes, DefaultHashBuilder, PinHeld<OnLeave<Owing<Collect>>>>,
     disk: Mutex<Disk>,
 }
 
 impl Blockstore {
     /// A store that keeps blocks of so many bytes in memory, with 80 more for each.
     pub fn new(alloc: Global, bytes: u64) -> io::Result<Self> {
-        let (by, pins) = (ByBytes::with_overhead(80), PinHeld(OnLeave(Collect)));
-        let blocks = Cache::with(alloc, 100, bytes, by, DefaultHashBuilder::new(), pins)?;
-        let disk = Mutex::new(BTreeMap::new(alloc));
+        let (by, pins) = (ByBytes::with_overhead(80), PinHeld(OnLeave(Owing(Collect))));
         Ok(Blockstore {
             alloc,
-            blocks,
-            disk,
+            blocks: Cache::with(alloc, 100, bytes, by, DefaultHashBuilder::new(), pins)?,
+            disk: Mutex::new(BTreeMap::new(alloc)),
         })
     }
 
     /// The block of this number, from memory or from the disk.
-    pub fn read<R: Wait>(&self, rt: &R, number: u64) -> io::Result<Option<Handle>> {
+    pub fn read<R: Wait>(&self, rt: &R, number: u64) -> io::Result<Option<Block>> {
         if let Some(block) = self.blocks.get(rt, &number)? {
             return Ok(Some(block));
         }
         let mut disk = self.disk.lock(rt);
         // Another thread may have brought it here before this one had the lock.
-        if let Some(block) = self.blocks.peek(rt, &number)? {
-            return Ok(Some(block));
-        }
-        let Some(data) = disk.get(&number) else {
-            return Ok(None);
+        let block = match (self.blocks.peek(rt, &number)?, disk.get(&number)) {
+            (None, Some(data)) => Arc::new(self.alloc, (data.clone()?, false))?,
+            (found, _) => return Ok(found),
         };
-        let block = self.block(data.clone()?, false)?;
         self.bring(rt, &mut disk, number, block.clone()?)?;
         Ok(Some(block))
     }
 
     /// Writes a block, in memory alone as long as it does not leave.
     pub fn write<R: Wait>(&self, rt: &R, number: u64, data: Vec<u8>) -> io::Result<()> {
-        let block = self.block(data, true)?;
+        let block = Arc::new(self.alloc, (data, true))?;
         self.bring(rt, &mut *self.disk.lock(rt), number, block)
     }
 
     /// Takes all blocks out of memory, and writes those that are dirty.
     pub fn close<R: Wait>(&self, rt: &R) -> io::Result<()> {
         let mut disk = self.disk.lock(rt);
-        for (number, block) in self.blocks.drain(rt) {
-            save(&mut disk, number, &block)?;
-        }
-        Ok(())
-    }
-
-    // A block that can be shared, and weighs its data.
-    fn block(&self, data: Vec<u8>, is_dirty: bool) -> io::Result<Handle> {
-        let block = WithBytes::measured(Block { data, is_dirty }, |block: &Block| {
-            block.data.len() as u64
-        });
-        Ok(Arc::new(self.alloc, block)?)
+        let mut blocks = self.blocks.drain(rt);
+        blocks.try_for_each(|(number, block)| save(&mut disk, number, &block))
     }
 
     // Takes a block into memory, and saves what leaves for it, by whatever cause: victims, an older
     // block of the number, or the block itself, where it is too heavy.
-    fn bring(&self, rt: &impl Wait, disk: &mut Disk, key: u64, block: Handle) -> io::Result<()> {
-        let mut left = Collected::with(Vec::new(self.alloc));
+    fn bring(&self, rt: &impl Wait, disk: &mut Disk, key: u64, block: Block) -> io::Result<()> {
+        let mut left = Owed(Collected::with(Vec::new(self.alloc)));
         let brought = self.blocks.insert_with_lifecycle(rt, key, block, &mut left);
-        let is_whole = brought.is_ok() && left.lost() == 0;
-        for (number, block) in left.into_pairs().unwrap_or(Vec::new(self.alloc)) {
-            save(disk, number, &block)?;
-        }
-        if !is_whole {
-            return Err(io::Error::from(ErrorKind::OutOfMemory));
-        }
-        Ok(())
+        let Owed(left) = left;
+        let mut is_whole = brought.is_ok() && left.lost() == 0;
+        left.each(|number, block| is_whole &= save(disk, number, &block).is_ok());
+        Ok(is_whole.then_some(()).ok_or(Refusal::Memory)?)
     }
 }
 
 // Writes a block to the disk, where it is dirty.
-fn save(disk: &mut Disk, number: u64, block: &Handle) -> io::Result<()> {
-    if block.is_dirty {
-        disk.insert(number, block.data.clone()?)?;
+fn save(disk: &mut Disk, number: u64, block: &Block) -> io::Result<()> {
+    if block.1 {
+        disk.insert(number, block.0.clone()?)?;
     }
     Ok(())
 }
@@ -127,7 +104,7 @@ mod tests {
     /// Which turn wrote the block of this number last, by its data.
     fn turn_of<R: Wait>(rt: &R, store: &Blockstore, number: u64) -> io::Result<Option<u8>> {
         match store.read(rt, number)? {
-            Some(block) => Ok(block.data.last().copied()),
+            Some(block) => Ok(block.0.last().copied()),
             None => Ok(None),
         }
     }

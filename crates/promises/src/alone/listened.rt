@@ -7,7 +7,7 @@ ghost use Rattle.quick_cache_unsync.specs.Touches.{no_touches};
 
 use quick_cache_listeners::{
     ByLength, Cause, Collect, Collected, Counted, CountedByThreads, Counts, ListenerWhy, OnLeave,
-    OnLeaveWhy, Pin, PinBy, PinHeld, Request, SharedTallies,
+    OnLeaveWhy, Owed, Owing, Pin, PinBy, PinHeld, Request, SharedTallies,
 };
 use quick_cache_model::{Lifecycle, Weighter};
 use quick_cache_shard::Ruled;
@@ -42,13 +42,13 @@ pub fn pin_by_the_first(key: &u64, value: &u64) -> bool
     PinBy(Odd, OnLeave(Collect)).is_pinned(key, value)
 }
 
-/// What leaves the hot ring is kept, where there is room.
-pub fn keep_what_left_hot(left: &mut Collected<u64, u64>, key: u64, value: u64)
-    requires empty { left.old.pairs ≡ Some [] }
-    requires room { 0 < left.old.room }
-    ensures { left.new.pairs ≡ Some ((key, value) ∷ []) }
+/// What leaves the hot ring is owed, where there is room.
+pub fn owe_what_left_hot(left: &mut Owed<Collected<u64, u64>>, key: u64, value: u64)
+    requires empty { left.old.0.pairs ≡ Some [] }
+    requires room { 0 < left.old.0.room }
+    ensures { left.new.0.pairs ≡ Some ((key, value) ∷ []) }
 {
-    OnLeave(Collect).on_evict_hot(left, key, value);
+    OnLeave(Owing(Collect)).on_evict_hot(left, key, value);
 }
 
 /// What leaves without a list is counted as lost.
