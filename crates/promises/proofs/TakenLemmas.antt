@@ -1,12 +1,17 @@
 -- What was taken out, and what a lifecycle was told of it.
-use Rattle.std.proofs.Common.{◌≡◌, ◌⊎◌, inl, inr, Bool, List, [], ◌∷◌, Option, Some, None, subst, sym}
+use Rattle.std.proofs.Common.{◌≡◌, ◌⊎◌, inl, inr, ℕ, Bool, true, false, true≢false, not, List, [], ◌∷◌, Option, Some, None, refl, ap, subst, sym, ◌∙◌}
 use Rattle.std.proofs.iter.Yields.{iter_once_steps, Once-Drains}
 use Rattle.std.specs.Prelude.{IfSome}
+use Rattle.std.specs.Iterator.{Drains, Yields}
 use Rattle.std.specs.List.{FoldsTo}
 use Rattle.std.specs.List.Sorted.{IsPermutation}
 use Rattle.std.specs.declared.iter.Once.{Once}
 use denote.Ref.{Bor}
 use denote.Param.Members.{Shared}
+use Rattle.quick_cache_expiring.specs.Lives.{lives}
+use Rattle.quick_cache_expiring.specs.Over.{TakesOver, moment_of}
+use Rattle.quick_cache_expiring.specs.declared.alone.over.TakeOver.{TakeOver}
+use Rattle.quick_cache_expiring.specs.declared.lasting.Lasting.{Lasting}
 use Rattle.quick_cache_listeners.specs.declared.causes.cause.Cause.{Cause}
 use Rattle.quick_cache_listeners.specs.Taken.{TellsEach}
 use Rattle.quick_cache_shard.specs.Shard.{Shard}
@@ -14,6 +19,11 @@ use Rattle.quick_cache_shard.specs.ShardDrain.{pairs_in}
 use Rattle.quick_cache_shard.proofs.DrainLemmas.{TakesItem-gives}
 use Rattle.quick_cache_unsync.specs.Extracting.{Extracts, takes_from}
 use Rattle.quick_cache_unsync.specs.declared.walking.extracting.ExtractIf.{ExtractIf}
+
+-- only the opposite of false is true
+not-true : (answer : Bool) → not answer ≡ true → answer ≡ false
+not-true true is = absurd (true≢false (sym is))
+not-true false is = refl
 
 module _ {K V S : Type 0} (tells : S → K → V → Cause → S → Type 0) (cause : Cause) (old new : S)
     (option : Once (K × V)) (told : TellsEach iter_once_steps option tells cause old new) where
@@ -63,3 +73,38 @@ gives-one {K = K} {V = V} {We = We} {B = B} {L = L} calls equal first next (Some
     (subst (λ (s : Shard K V We B L). IsPermutation (pairs_in (takes_from first).now)
     (pair ∷ pairs_in s)) (sym ends)
     (TakesItem-gives (takes_from first).now (takes_from next).now pair steps.gives.1.takes))
+
+-- what is told of each entry that was over leaves what it leaves, where there is one
+module _ {K V We B L A H S : Type 0} (equal : K → K → Bool) (now : ℕ)
+    (tells : S → K → Lasting V → Cause → S → Type 0) (cause : Cause) (P : S → Type 0)
+    (leaves : (old new : S) (key : K) (lasting : Lasting V) → lives lasting.until now ≡ false
+    → tells old key lasting cause new → P new) where
+  -- an entry that a walk at the moment gives is over
+  given-over : (first next : TakeOver K V We B L A H) (pair : K × Lasting V)
+      → moment_of first ≡ now → TakesOver equal first (Some pair) next
+      → lives pair.1.until now ≡ false
+  given-over first next pair at steps =
+      let taken = steps.gives.1 in
+      let over : lives taken.takes.item.value.until (moment_of first) ≡ false =
+      not-true _ (sym taken.first.wanted) in
+      subst (λ (moment : ℕ). lives pair.1.until moment ≡ false) at
+      (subst (λ (lasting : Lasting V). lives lasting.until (moment_of first) ≡ false)
+      (sym (ap (λ (p : K × Lasting V). p.1) taken.takes.gives)) over)
+
+  over-told : (came : List (K × Lasting V)) (first last : TakeOver K V We B L A H)
+      → moment_of first ≡ now → Yields (TakesOver equal) first came last → (old new : S)
+      → FoldsTo (λ before pair after. tells before pair.0 pair.1 cause after) old came new
+      → P old → P new
+  over-told [] first last at yields old new told holds = subst P told holds
+  over-told (pair ∷ came) first last at (next, step, rest) old new told holds =
+      over-told came next last (step.moment ∙ at) rest told.0 new told.2
+      (leaves old told.0 pair.0 pair.1 (given-over first next pair at step) told.1)
+
+  -- so does what is told of all that a walk gives
+  pub TellsEach-over : (first : TakeOver K V We B L A H) (old new : S) → moment_of first ≡ now
+      → TellsEach (TakesOver equal) first tells cause old new → P old → P new
+  TellsEach-over first old new at told holds = go told.drains
+    where
+      go : Drains (TakesOver equal) first told.came → P new
+      go (end, (last, yields, ends)) =
+          over-told told.came first last at yields old new told.told holds

@@ -107,6 +107,8 @@ pub fn insert_from_the_beginning<
     B: BuildHasher,
     L: ListenerWhy<K, V>,
 >(cache: &mut Cache<K, V, We, B, OnLeaveWhy<L>>, key: K, value: V) -> Result<(), (K, V, Refusal)>
+where
+    L::State: Drop,
     ensures { IsDoneAlone (λ request. request.stage ≡ Stage.Fresh)
         (InsertsBy ⟦<Cache<K, V, We, B, OnLeaveWhy<L>> as Ruled>⟧.goes no_touches cache.old K.eq key
         value result cache.new) }

@@ -1,13 +1,15 @@
 //! What those rely on who take pairs out of a cache and tell its lifecycle.
-ghost use Rattle.std.specs.Prelude.{◌≡◌, ◌<◌, ◌⊎◌, ◌∷◌, [], Some, IfSome, IfNone, length, ◌+◌, ◌^◌};
+ghost use Rattle.std.specs.Prelude.{◌≡◌, ◌<◌, ◌⊎◌, ◌∷◌, [], Some, None, IfSome, IfNone, length, false, ◌+◌, ◌^◌};
 ghost use Rattle.std.specs.List.Sorted.{IsPermutation};
+ghost use Rattle.quick_cache_expiring.specs.Lives.{lives};
 ghost use Rattle.quick_cache_shard.specs.ShardDrain.{pairs_in};
 ghost use Rattle.quick_cache_listeners.specs.declared.causes.cause.Cause.{Cause};
 
 use crate::alone::listened::{LastCause, Odd};
+use quick_cache_expiring::{Expiring, Lasting};
 use quick_cache_listeners::{
-    ByLength, Cause, Collect, Collected, Counted, CountedByThreads, Counts, OnLeave, OnLeaveWhy,
-    PinBy, PinHeld, Request, SharedTallies, TellsTaken,
+    ByLength, Cause, Collect, Collected, Counted, CountedByThreads, Counts, ListenerWhy, OnLeave,
+    OnLeaveWhy, PinBy, PinHeld, Request, SharedTallies, TellsTaken,
 };
 use quick_cache_unsync::Cache;
 use std::hash::BuildHasher;
@@ -113,4 +115,31 @@ pub fn hear_of_those_above<We, B: BuildHasher, L>(
 {
     let wanted = cache.extract_if(|_, value| *value > least);
     OnLeaveWhy(LastCause).tell_each_taken(heard, wanted, Cause::Retained);
+}
+
+/// Keeps why the last entry left, and its end.
+#[derive(Drop)]
+pub struct LastEnd;
+
+impl ListenerWhy<u64, Lasting<u64>> for LastEnd {
+    type State = Option<(Cause, u64)>;
+
+    ghost tells = { λ _ _ _ lasting cause new. new ≡ Some (cause, lasting.until) };
+
+    fn tell(&self, last: &mut Option<(Cause, u64)>, _key: u64, val: Lasting<u64>, cause: Cause) {
+        *last = Some((cause, val.until));
+    }
+}
+
+/// So may each entry that is over, as expired, and what is told so was over.
+pub fn hear_of_what_is_over(
+    heard: &mut Request<Option<(Cause, u64)>>,
+    entries: &mut Expiring<u64, u64>,
+    now: u64,
+)
+    requires none { heard.old.state ≡ None }
+    ensures { IfSome heard.new.state (λ told. (told.0 ≡ Cause.Expired)
+        × (lives told.1 now ≡ false)) }
+{
+    OnLeaveWhy(LastEnd).tell_each_taken(heard, entries.take_over(now), Cause::Expired);
 }
