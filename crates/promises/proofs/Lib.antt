@@ -14,3 +14,4 @@ mod ToldLemmas
 mod TurnLemmas
 mod EndedLemmas
 mod TestedLemmas
+mod TimedLemmas

@@ -15,4 +15,5 @@ pub mod saved;
 pub mod served;
 pub mod taken;
 pub mod tested;
+pub mod timed;
 pub mod weighed;

@@ -13,4 +13,5 @@ pub mod seats;
 pub mod shards;
 pub mod shared;
 pub mod tested;
+pub mod timed;
 pub mod walks;

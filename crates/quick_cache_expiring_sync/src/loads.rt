@@ -1,39 +1,22 @@
 //! Values that a loader gives where none serves.
-ghost use Rattle.std.specs.Prelude.{◌≡◌, Ok, Err, None, IfOk, IfErr, IfSome, false};
+ghost use Rattle.std.specs.Prelude.{◌≡◌, Ok, Err, IfOk, IfErr, IfSome};
 ghost use Rattle.quick_cache_guard.specs.Answers.{IsLoadRefusal};
-ghost use Rattle.quick_cache_guard.specs.Entries.{IfGuarded, IfRetained, IsRefusedAsLoad, is_late};
 ghost use Rattle.quick_cache_locked.specs.Fitting.{ClonesFit};
 ghost use Rattle.quick_cache_model.specs.Hashing.{StandsForGiven};
 ghost use Rattle.quick_cache_expiring.specs.Lives.{end_of};
 ghost use Rattle.quick_cache_expiring.specs.Lastings.{ClonesLasting, lasting_of};
 ghost use Rattle.quick_cache_expiring_sync.specs.Loads.{GivesAt, ChoosesToLoad};
-ghost use Rattle.quick_cache_expiring_sync.specs.Looks.{FitsAt};
 
 use crate::shared::SharedExpiring;
-use quick_cache_expiring::{ByValue, Lasting, end_of};
+use quick_cache_expiring::{Lasting, end_of};
 use quick_cache_guard::{EntryResult, GuardResult, LoadingShard, PlaceholderGuard};
-use quick_cache_locked::LockedShard;
 use quick_cache_model::{Lifecycle, Refusal, ToKey, Weighter};
 use quick_cache_shard::EntryAction;
 use std::alloc::Allocator;
 use std::hash::{BuildHasher, Hash};
 use std::sync::Wait;
 use std::sync::atomic::Ordering;
-use std::time::{Clock, Duration};
-
-/// A shard of the cache, as its lock keeps it.
-type ShardOf<K, V, We, B, L, A> = LockedShard<K, Lasting<V>, ByValue<We>, B, L, A>;
-
-/// The right to load a key.
-type GuardOf<'a, K, V, We, B, L, R, A> = PlaceholderGuard<
-    'a,
-    K,
-    Lasting<V>,
-    L,
-    ShardOf<K, V, We, B, L, A>,
-    R,
-    A,
->;
+use std::time::Clock;
 
 impl<
     K: Eq + Hash + Drop,
@@ -97,7 +80,8 @@ impl<
         }
     }
 
-    /// The same where what was found is over.
+    /// The same where what was found is over: by an entry call, since another may have loaded the
+    /// key anew by now.
     fn load_anew<Q: ToKey<K>, R: Wait + Clock, E: Drop, F: FnOnce() -> Result<V, E>>(
         &self,
         rt: &R,
@@ -118,8 +102,13 @@ impl<
         ensures error { IfOk result (λ loaded. IfErr loaded (λ error. F.post loader (Err error))) }
         ensures refused { IfErr result IsLoadRefusal }
     {
-        match self.look_anew(rt, query, now, None) {
-            EntryResult::Retained(value) => Ok(Ok(value)),
+        let looks = |_key: &K, lasting: &mut Lasting<V>| -> EntryAction<Result<V, Refusal>>
+            ensures same { lasting.new ≡ lasting.old }
+            ensures chooses { ChoosesToLoad V.is_clone now lasting.old result }
+        { look(lasting, now) };
+        match self.cache.entry(rt, query, None, looks) {
+            EntryResult::Retained(Ok(value)) => Ok(Ok(value)),
+            EntryResult::Retained(Err(refusal)) => Err(refusal),
             EntryResult::Replaced(guard, _) => {
                 let mut guard = Some(guard);
                 Ok(fill_with(&mut guard, end_of(now, life), loader()))
@@ -132,37 +121,6 @@ impl<
             EntryResult::Removed(_, _) => Ok(loader()),
             EntryResult::Timeout => unreachable!(),
             EntryResult::Refused(refusal) => Err(refusal),
-        }
-    }
-
-    /// Looks at the entry once more, by an entry call, since another may have loaded the key anew by
-    /// now: a clone of what serves, or the right to load what does not.
-    fn look_anew<'a, Q: ToKey<K>, R: Wait + Clock>(
-        &'a self,
-        rt: &'a R,
-        query: &Q,
-        now: u64,
-        limit: Option<Duration>,
-    ) -> EntryResult<V, K, Lasting<V>, GuardOf<'a, K, V, We, B, L, R, A>>
-        requires stands { StandsForGiven (Q.to_key_gives query.now) (Q.equivalent query.now) }
-        requires clones { ClonesFit L.fits (ClonesLasting V.is_clone) }
-        ensures told { IfRetained result (FitsAt L.fits (Q.equivalent query.now) now) }
-        ensures key { IfGuarded result (λ key. Q.to_key_gives query.now key) }
-        ensures refused { IsRefusedAsLoad result }
-        ensures timely { limit ≡ None → is_late result ≡ false }
-    {
-        let looks = |_key: &K, lasting: &mut Lasting<V>| -> EntryAction<Result<V, Refusal>>
-            ensures same { lasting.new ≡ lasting.old }
-            ensures chooses { ChoosesToLoad V.is_clone now lasting.old result }
-        { look(lasting, now) };
-        match self.cache.entry(rt, query, limit, looks) {
-            EntryResult::Retained(Ok(value)) => EntryResult::Retained(value),
-            EntryResult::Retained(Err(refusal)) => EntryResult::Refused(refusal),
-            EntryResult::Replaced(guard, old) => EntryResult::Replaced(guard, old),
-            EntryResult::Vacant(guard) => EntryResult::Vacant(guard),
-            EntryResult::Removed(key, old) => EntryResult::Removed(key, old),
-            EntryResult::Timeout => EntryResult::Timeout,
-            EntryResult::Refused(refusal) => EntryResult::Refused(refusal),
         }
     }
 }

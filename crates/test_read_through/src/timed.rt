@@ -1,13 +1,14 @@
 //! Caches with a clock and a life of their own.
 ghost use Rattle.std.specs.Prelude.{◌≡◌, IfOk, length, vec_len};
 
+use crate::loader::hundreds::{all_hundreds, hundreds};
 use quick_cache_expiring::{Expiring, LoadError, Text};
 use quick_cache_expiring_sync::SharedExpiring;
 use quick_cache_timed::{
     Life, SetTicker, SharedTicker, SystemTicker, Ticker, Timed, TimedReading, millis_of,
 };
 use read_through::ReadThrough;
-use std::alloc::{AllocError, Global};
+use std::alloc::AllocError;
 use std::convert::Infallible;
 use std::thread::sleep;
 use std::time::Duration;
@@ -128,21 +129,10 @@ fn a_load_renews_what_slides(rt: HostRuntime) {
     }
 }
 
-/// The values of the keys at a moment.
-fn all_at(alloc: Global, keys: &[u64], moment: u64) -> Result<Vec<u64>, AllocError>
-    ensures { IfOk result (λ values. vec_len values ≡ length keys.now) }
-{
-    let mut values = Vec::with_capacity(alloc, keys.len())?;
-    for key in keys {
-        values.push(key.wrapping_add(moment))?;
-    }
-    Ok(values)
-}
-
 #[test]
 fn a_loader_is_asked_at_the_moment_that_the_clock_tells(rt: HostRuntime) {
     let ticker = SharedTicker::new(0);
-    let loader = |key: &u64, now: u64| key.wrapping_add(now);
+    let loader = |key: &u64, now: u64| hundreds(*key, now);
     let inner: ReadThrough<u64, u64, _> =
         expect_ok!(rt; ReadThrough::new(rt.alloc(), 8, 10_000, loader));
     let timed = TimedReading {
@@ -151,10 +141,10 @@ fn a_loader_is_asked_at_the_moment_that_the_clock_tells(rt: HostRuntime) {
     };
     // The moment, what a get of 1 gives, and one which refreshes what is 5 seconds old.
     for (moment, value, refreshed) in [
-        (0, 1, 1),
-        (5000, 1, 1),
-        (5001, 1, 5002),
-        (15001, 15002, 15002),
+        (0, 100, 100),
+        (5000, 100, 100),
+        (5001, 100, 5101),
+        (15001, 15101, 15101),
     ] {
         ticker.set(moment);
         expect_eq!(rt; (moment, timed.get(&rt, &1)), (moment, Ok(value)));
@@ -164,10 +154,10 @@ fn a_loader_is_asked_at_the_moment_that_the_clock_tells(rt: HostRuntime) {
     expect_eq!(rt; timed.put(&rt, 2, 7), Ok(()));
     let load_all = |keys: &[u64]| -> Result<Vec<u64>, AllocError>
         ensures { IfOk result (λ values. vec_len values ≡ length keys.now) }
-    { all_at(rt.alloc(), keys, 15001) };
+    { all_hundreds(rt.alloc(), keys, 15001) };
     let many = timed.load_many(&rt, rt.alloc(), &[1, 2, 3], load_all);
     let many = expect_ok!(rt; expect_ok!(rt; many));
-    expect_eq!(rt; many.as_slice(), &[15002, 7, 15004]);
+    expect_eq!(rt; many.as_slice(), &[15101, 7, 15301]);
     expect_eq!(rt; (timed.len(&rt), timed.stats(&rt).expired), (3, 1));
 }
 

@@ -6,10 +6,12 @@ use quick_cache_expiring::Expiring;
 use quick_cache_expiring_sync::SharedExpiring;
 use quick_cache_listeners::ByLength;
 use quick_cache_maker::{MakeError, Maker};
+use quick_cache_model::UnitWeighter;
 use quick_cache_sync::Cache as SharedCache;
-use quick_cache_unsync::Cache;
-use read_through::ReadThrough;
+use quick_cache_unsync::{Cache, Options, Refusal};
+use read_through::{AnySource, ReadThrough};
 use std::alloc::Global;
+use std::hash::BuildHasher;
 
 /// A cache of texts that is given so many bytes is made, has that capacity, and begins empty.
 pub fn make_for_bytes(alloc: Global, bytes: u64) -> Result<Cache<u64, String, ByLength>, MakeError>
@@ -67,4 +69,19 @@ pub fn make_loader<F: Drop>(alloc: Global, loader: F) -> Result<ReadThrough<u64,
         .items(100)
         .weight(100)
         .make_read_through(alloc, 60, loader)
+}
+
+/// So they do where keys are hashed by a builder of one's own, and there is a power of two of shards.
+pub fn make_loader_by_builder<B: BuildHasher + Clone + Drop, F: Drop>(
+    alloc: Global,
+    options: Options,
+    builder: B,
+    loader: F,
+) -> Result<ReadThrough<u64, u64, F, AnySource, Global, u64, UnitWeighter, B>, Refusal>
+    ensures lives { IfOk result (λ made. made.lives ≡ 60) }
+    ensures grace { IfOk result (λ made. made.grace ≡ 0) }
+    ensures loader { IfOk result (λ made. made.loader ≡ loader) }
+    ensures shards { IfOk result (λ made. IsPowerOfTwo made.shards) }
+{
+    ReadThrough::with_builder(alloc, options, UnitWeighter, builder, 60, loader)
 }

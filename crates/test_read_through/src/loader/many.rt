@@ -1,22 +1,11 @@
 //! Many keys at once.
 ghost use Rattle.std.specs.Prelude.{◌≡◌, IfOk, length, vec_len};
 
-use crate::loader::hundreds::hundreds;
+use crate::loader::hundreds::{all_hundreds, hundreds};
 use read_through::{ReadThrough, Stats};
-use std::alloc::{AllocError, Global};
+use std::alloc::AllocError;
 use std::sync::atomic::{AtomicU64, Ordering};
 use test_tools::{expect_eq, expect_ok};
-
-/// The values of the keys at a moment.
-fn all_hundreds(alloc: Global, keys: &[u64], now: u64) -> Result<Vec<u64>, AllocError>
-    ensures { IfOk result (λ values. vec_len values ≡ length keys.now) }
-{
-    let mut values = Vec::with_capacity(alloc, keys.len())?;
-    for key in keys {
-        values.push(hundreds(*key, now))?;
-    }
-    Ok(values)
-}
 
 /// The keys as one number.
 fn digits(keys: &[u64]) -> u64 {

@@ -1,5 +1,5 @@
 use Rattle.std.proofs.Common.{◌≡◌, vec_len}
-use Rattle.test_read_through.proofs.timed.all_at.Given as goal
+use Rattle.test_read_through.proofs.loader.hundreds.all_hundreds.Given as goal
 
 -- there is a value for each key so far
 abbrev pub invariant-loop-key : goal.invariant-loop-key
