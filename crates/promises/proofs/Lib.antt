@@ -14,4 +14,3 @@ mod ToldLemmas
 mod TurnLemmas
 mod EndedLemmas
 mod TestedLemmas
-mod TimedLemmas

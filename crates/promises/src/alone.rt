@@ -15,5 +15,4 @@ pub mod saved;
 pub mod served;
 pub mod taken;
 pub mod tested;
-pub mod timed;
 pub mod weighed;
