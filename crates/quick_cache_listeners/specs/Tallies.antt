@@ -1,5 +1,6 @@
 -- Counts of what left, by its cause.
-use Rattle.std.specs.Prelude.{◌≡◌, ℕ}
+use Rattle.std.specs.Prelude.{◌≡◌, ℕ, List, ◌++◌, codes}
+use Rattle.std.specs.Fmt.{decimal}
 use Rattle.quick_cache_model.specs.declared.queue.Queue.{Queue}
 use Rattle.quick_cache_model.specs.Touches.{counted_up}
 use Rattle.quick_cache_listeners.specs.declared.causes.cause.Cause.{Cause}
@@ -46,6 +47,36 @@ counted Cause.Cleared weight tallies =
     record tallies { cleared = with_pair weight tallies.cleared }
 counted Cause.Retained weight tallies =
     record tallies { retained = with_pair weight tallies.retained }
+
+-- two lines for a cause: how many pairs left, and what they weighed
+unfoldable pub tally_text : (cause : List ℕ) → Tally → List ℕ
+tally_text cause tally =
+    codes "cache_" ++ cause ++ codes "_total " ++ decimal tally.pairs ++ codes "\n"
+    ++ codes "cache_" ++ cause ++ codes "_weight_total " ++ decimal tally.weight ++ codes "\n"
+
+-- the lines of what made room
+abbrev pub victims_text : Tallies → List ℕ
+victims_text tallies =
+    tally_text (codes "evicted_hot") tallies.evicted_hot
+    ++ tally_text (codes "evicted_cold") tallies.evicted_cold
+
+-- the lines of what a write replaced or turned away
+abbrev pub written_text : Tallies → List ℕ
+written_text tallies =
+    tally_text (codes "replaced") tallies.replaced
+    ++ tally_text (codes "turned_away") tallies.turned_away
+
+-- the lines of what callers told
+abbrev pub taken_text : Tallies → List ℕ
+taken_text tallies =
+    tally_text (codes "expired") tallies.expired
+    ++ tally_text (codes "removed") tallies.removed
+    ++ tally_text (codes "cleared") tallies.cleared
+    ++ tally_text (codes "retained") tallies.retained
+
+-- the lines of all causes
+abbrev pub tallies_text : Tallies → List ℕ
+tallies_text tallies = victims_text tallies ++ written_text tallies ++ taken_text tallies
 
 module _ {K V S : Type 0} where
   -- `before_evict` is noted, nothing is counted, and the inner hook does what it does

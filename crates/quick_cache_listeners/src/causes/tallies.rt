@@ -1,8 +1,10 @@
 //! How many pairs left, and their weight, by their cause.
-ghost use Rattle.std.specs.Prelude.{◌≡◌};
-ghost use Rattle.quick_cache_listeners.specs.Tallies.{counted, tally_of, with_pair};
+ghost use Rattle.std.specs.Prelude.{◌≡◌, Some};
+ghost use Rattle.std.specs.Fmt.{WritesOnOk};
+ghost use Rattle.quick_cache_listeners.specs.Tallies.{counted, tallies_text, taken_text, tally_of, tally_text, victims_text, with_pair, written_text};
 
 use crate::causes::cause::Cause;
+use std::fmt::{self, Display, Formatter, Write};
 use std::sync::atomic::{AtomicU64, Ordering};
 
 /// How many pairs left for one cause and what they weighed together, each up to the greatest `u64`.
@@ -24,7 +26,20 @@ impl Tally {
     }
 }
 
+// Writes two lines for a cause, a name and a number each.
+fn write_tally<W: Write>(f: &mut Formatter<W>, cause: &str, tally: Tally) -> fmt::Result
+    ensures { WritesOnOk W.write_str_gives f.old result (tally_text cause.now tally) f.new }
+{
+    write!(
+        f,
+        "cache_{cause}_total {}\ncache_{cause}_weight_total {}\n",
+        tally.pairs, tally.weight
+    )
+}
+
 /// What left, by its cause.
+///
+/// It is shown as lines for a page of metrics, a name and a number each, as Prometheus reads them.
 #[derive(Debug, Clone, Copy, Default, PartialEq, Eq)]
 pub struct Tallies {
     /// Victims of the hot ring.
@@ -76,6 +91,42 @@ impl Tallies {
             Cause::Cleared => self.cleared.count(weight),
             Cause::Retained => self.retained.count(weight),
         }
+    }
+
+    // Writes what made room.
+    fn write_victims<W: Write>(&self, f: &mut Formatter<W>) -> fmt::Result
+        ensures { WritesOnOk W.write_str_gives f.old result (victims_text self.now) f.new }
+    {
+        write_tally(f, "evicted_hot", self.evicted_hot)?;
+        write_tally(f, "evicted_cold", self.evicted_cold)
+    }
+
+    // Writes what a write replaced or turned away.
+    fn write_written<W: Write>(&self, f: &mut Formatter<W>) -> fmt::Result
+        ensures { WritesOnOk W.write_str_gives f.old result (written_text self.now) f.new }
+    {
+        write_tally(f, "replaced", self.replaced)?;
+        write_tally(f, "turned_away", self.turned_away)
+    }
+
+    // Writes what callers told.
+    fn write_taken<W: Write>(&self, f: &mut Formatter<W>) -> fmt::Result
+        ensures { WritesOnOk W.write_str_gives f.old result (taken_text self.now) f.new }
+    {
+        write_tally(f, "expired", self.expired)?;
+        write_tally(f, "removed", self.removed)?;
+        write_tally(f, "cleared", self.cleared)?;
+        write_tally(f, "retained", self.retained)
+    }
+}
+
+impl Display for Tallies {
+    ghost output = { λ tallies. Some (tallies_text tallies) };
+
+    fn fmt<W: Write>(&self, f: &mut Formatter<W>) -> fmt::Result {
+        self.write_victims(f)?;
+        self.write_written(f)?;
+        self.write_taken(f)
     }
 }
 
