@@ -123,6 +123,26 @@ fn what_leaves_is_owed_until_its_state_is_taken_apart(rt: HostRuntime) {
     expect_eq!(rt; pairs.as_slice(), &told);
 }
 
+/// What is counted where a caller takes six texts out.
+const COUNTS_OF_WHAT_WAS_TAKEN: &str = "\
+cache_evicted_hot_total 0
+cache_evicted_hot_weight_total 0
+cache_evicted_cold_total 0
+cache_evicted_cold_weight_total 0
+cache_replaced_total 0
+cache_replaced_weight_total 0
+cache_turned_away_total 0
+cache_turned_away_weight_total 0
+cache_expired_total 1
+cache_expired_weight_total 4
+cache_removed_total 1
+cache_removed_weight_total 3
+cache_cleared_total 3
+cache_cleared_weight_total 20
+cache_retained_total 1
+cache_retained_weight_total 6
+";
+
 /// Counts what leaves, by the length of its text, and does nothing else.
 const COUNTED: Counted<ByLength, OnLeave<Ignore>> = Counted(ByLength, OnLeave(Ignore));
 
@@ -158,7 +178,8 @@ fn what_the_caller_takes_out_is_counted_by_its_cause(rt: HostRuntime) {
     ] {
         expect_eq!(rt; told.state.tallies.of(cause), Tally { pairs, weight });
     }
-    expect_eq!(rt; cache.len(), 0);
+    let text = expect_ok!(rt; format!(in rt.alloc(); "{}", told.state.tallies));
+    expect_eq!(rt; (cache.len(), text.as_str()), (0, COUNTS_OF_WHAT_WAS_TAKEN));
 }
 
 #[test]
