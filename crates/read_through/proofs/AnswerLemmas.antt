@@ -2,6 +2,8 @@
 use Rattle.std.proofs.Common.{◌≡◌, ℕ, Bool, IsTrue, Option, Some, None, IfSome, Result, Ok, Err, IfOk, ◌∙◌, refl, sym, subst, arith}
 use Rattle.std.specs.Cmp.{IsEquivalence}
 use Rattle.quick_cache_locked.specs.Fitting.{ClonesFit, FitsQuery}
+use Rattle.quick_cache_guard.specs.Futures.{GivesFor}
+use Rattle.quick_cache_model.specs.declared.refusal.Refusal.{Refusal}
 use Rattle.quick_cache_expiring.specs.declared.loaded.Loaded.{Loaded}
 use Rattle.read_through.specs.declared.given.Given.{Given}
 use Rattle.quick_cache_expiring.specs.Moments.{Serves, IsFresh, IsWithin}
@@ -87,6 +89,22 @@ module _ {K V : Type 0} (gives : K → ℕ → V → Type 0) (equal : K → K �
   ClonesFit-loaded is_clone clones = λ key old new cloned fits.
       subst (λ moment. IsOf gives equal key moment new.value) (sym cloned.1)
       (IsOf-clone is_clone clones key old.moment old.value new.value cloned.0 fits)
+
+  -- what a future found fits an equal key, so it is the source's
+  pub IsOf-found : (is_clone : V → V → Type 0) → GivesClones gives is_clone → (asked : K)
+      (becomes : K → Type 0) (told : Result (Result (Loaded V) K) Refusal) (found : Loaded V)
+      → told ≡ Ok (Ok found)
+      → GivesFor (λ (key : K) (loaded : Loaded V). IsOf gives equal key loaded.moment loaded.value)
+      (λ old new. is_clone old.value new.value × (new.moment ≡ old.moment)
+      × (new.asked ≡ old.asked)) (equal asked) becomes told
+      → IsOf gives equal asked found.moment found.value
+  IsOf-found is_clone clones asked becomes told found is given =
+      let fits = subst (GivesFor (λ (key : K) (loaded : Loaded V).
+          IsOf gives equal key loaded.moment loaded.value)
+          (λ old new. is_clone old.value new.value × (new.moment ≡ old.moment)
+          × (new.asked ≡ old.asked)) (equal asked) becomes) is given
+          (ClonesFit-loaded is_clone clones) in
+      IsOf-same asked fits.key found.moment found.value fits.stands fits.fits_key
 
   module _ (asked : K) (life_of : V → ℕ → ℕ) where
     -- what was loaded now for the key is an answer
