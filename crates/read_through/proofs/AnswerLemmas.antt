@@ -100,10 +100,10 @@ module _ {K V : Type 0} (gives : K → ℕ → V → Type 0) (equal : K → K �
       → IsOf gives equal asked found.moment found.value
   IsOf-found is_clone clones asked becomes told found is given =
       let fits = subst (GivesFor (λ (key : K) (loaded : Loaded V).
-          IsOf gives equal key loaded.moment loaded.value)
-          (λ old new. is_clone old.value new.value × (new.moment ≡ old.moment)
-          × (new.asked ≡ old.asked)) (equal asked) becomes) is given
-          (ClonesFit-loaded is_clone clones) in
+      IsOf gives equal key loaded.moment loaded.value)
+      (λ old new. is_clone old.value new.value × (new.moment ≡ old.moment)
+      × (new.asked ≡ old.asked)) (equal asked) becomes) is given
+      (ClonesFit-loaded is_clone clones) in
       IsOf-same asked fits.key found.moment found.value fits.stands fits.fits_key
 
   module _ (asked : K) (life_of : V → ℕ → ℕ) where
