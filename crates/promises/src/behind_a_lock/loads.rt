@@ -83,6 +83,8 @@ pub fn start_and_fill<
     share: Share,
     value: V,
 ) -> Result<(), V>
+where
+    L::RequestState: Drop,
     requires owned { is_some placeholder.placeholder ≡ true }
     requires share { share ≡ placeholder.ticket }
     requires fits { L.fits key value }
