@@ -78,7 +78,7 @@ impl<
             → IfErr result (λ told. IfSome told (λ answer. is_timeout answer ≡ false)) }
     {
         let LockedLoad { locked, shared } = self;
-        let Some(placeholder) = shared.placeholder() else {
+        let Some(placeholder) = shared.into_placeholder() else {
             return Err(Some(GuardResult::Refused(Refusal::Memory)));
         };
         let load = Load {
@@ -103,7 +103,7 @@ impl<
         ensures share { IfSome result (λ given. given.1 ≡ (arc_value given.0).ticket) }
     {
         let LockedLoad { locked, shared } = self;
-        let placeholder = shared.placeholder()?;
+        let placeholder = shared.into_placeholder()?;
         match placeholder.join(rt, locked, query, Wants::End, true) {
             Err(Waited::Guard(share)) => Some((placeholder, share)),
             Err(Waited::Value(_)) => None,

@@ -56,13 +56,6 @@ fn again<K: Eq + Drop, V: Drop, L: Lifecycle<K, V>, A: Allocator>(
 
 impl<K: Eq + Drop, V: Drop, L: Lifecycle<K, V>, A: Allocator> SharedPlaceholder<K, V, L, A> {
     /// The placeholder, for one who loads or waits.
-    pub fn placeholder(&self) -> Option<Arc<Placeholder<K, V, L, A>, A>>
-        ensures of_ticket { IfSome result (λ shared. (arc_value shared).ticket ≡ self.now.ticket) }
-    {
-        again(&self.placeholder, self.ticket)
-    }
-
-    /// The placeholder, which it gives up as its owner.
     pub fn into_placeholder(self) -> Option<Arc<Placeholder<K, V, L, A>, A>>
         ensures of_ticket { IfSome result (λ shared. (arc_value shared).ticket ≡ self.ticket) }
         ensures owned { is_some result ≡ is_some self.placeholder }

@@ -20,6 +20,7 @@ use std::hash::Hash;
 impl<K: Eq + Hash + Drop, V: Drop, P: SharedPlaceholder<K>, A: Allocator> Contents<K, V, P, A> {
     /// A key of the query's with what is kept of its placeholder, for the slot of that token, and
     /// the placeholder. Nothing changes.
+    #[inline(always)]
     fn await_key<Q: ToKey<K>, M: MakesPlaceholders<K, P>>(
         &self,
         maker: &M,

@@ -6,7 +6,7 @@ use futures::task::Poll;
 use futures::test::MockTask;
 use quick_cache_guard::entry_tasks::EntryFuture;
 use quick_cache_guard::{Begun, EntryResult, LoadingShard};
-use quick_cache_loading::sharing::Placeholder;
+use quick_cache_loading::sharing::{Placeholder, SharedPlaceholder};
 use quick_cache_loading::waiting::{Filled, Waited, Wants};
 use quick_cache_locked::LockedShard;
 use quick_cache_model::{DefaultHashBuilder, UnitWeighter};
@@ -80,7 +80,7 @@ fn an_entry_call_asks_for_another_poll_and_for_no_clone(rt: HostRuntime) {
     let Ok(Begun::Loading(shared)) = shard.write(rt).begin_load(&1) else {
         panic!(rt; "the key is absent");
     };
-    let Some(placeholder) = shared.placeholder() else {
+    let Some(placeholder) = shared.into_placeholder() else {
         panic!(rt; "it has few owners");
     };
     let Some(filled) = load_and_tell(rt, &mut *shard.write(rt), &placeholder) else {
@@ -95,7 +95,8 @@ fn an_entry_call_asks_for_another_poll_and_for_no_clone(rt: HostRuntime) {
     let task = expect_ok!(rt; MockTask::new(rt));
     expect!(rt; task.poll(&mut acts).is_pending() && task.is_woken());
     let mut state = [None, None];
-    let put = filled.settle(&mut *shard.write(rt), &shared, &1, Unique(5), &mut state);
+    let named = SharedPlaceholder::named(&placeholder);
+    let put = filled.settle(&mut *shard.write(rt), &named, &1, Unique(5), &mut state);
     expect!(rt; put.is_ok());
     expect!(rt; matches!(task.poll(&mut acts), Poll::Ready(EntryResult::Retained(5))));
 }
