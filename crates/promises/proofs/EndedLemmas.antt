@@ -1,13 +1,17 @@
--- A load of a key that is absent, where entries end.
-use Rattle.std.proofs.Common.{◌≡◌, ℕ, Bool, false, List, Option, None, is_some, Result, Ok, Err, IfOk, refl, ap, subst, sym, ◌∙◌}
+-- A load of a key that is absent, and a renewal where all are over.
+use Rattle.std.proofs.Common.{◌≡◌, ℕ, Bool, true, false, List, Option, Some, None, is_some, Result, Ok, Err, IfOk, refl, ap, subst, sym, ◌∙◌}
 use Rattle.std.specs.List.{AllByRecursion}
-use Rattle.quick_cache_model.specs.CacheState.{CacheState, Item, SameButOrder}
+use Rattle.quick_cache_model.specs.CacheState.{CacheState, Item, Place, InHot, InCold, InStill, SameButOrder, items_at}
 use Rattle.quick_cache_model.specs.Finding.{HasNoItem}
+use Rattle.quick_cache_model.specs.Fitting.{AllFit, FitsIn}
+use Rattle.quick_cache_model.specs.Hooks.{Rules}
+use Rattle.quick_cache_model.specs.Lookups.{LooksUp}
 use Rattle.quick_cache_model.specs.Removal.{RemovesIf}
-use Rattle.quick_cache_model.proofs.EachElement.{all-permutation}
+use Rattle.quick_cache_model.proofs.EachElement.{all-middle, all-permutation}
 use Rattle.quick_cache_shard.specs.Steps.{Goes}
 use Rattle.quick_cache_unsync.specs.declared.loading.not_loaded.LoadError.{LoadError}
-use Rattle.quick_cache_expiring.specs.Entries.{Entries, Expires, expired_after}
+use Rattle.quick_cache_expiring.specs.Entries.{Entries, Expires, Touches, expired_after}
+use Rattle.quick_cache_expiring.specs.Lives.{lives}
 use Rattle.quick_cache_expiring.specs.Loads.{FetchesAt, GivesWithEnd, without_end}
 use Rattle.quick_cache_expiring.specs.declared.by_value.ByValue.{ByValue}
 use Rattle.quick_cache_expiring.specs.declared.lasting.Lasting.{Lasting}
@@ -76,3 +80,30 @@ module _ {K V We B L : Type 0} (stands_for : K → Bool) (now : ℕ) (old : Entr
             fetches.told new.cache.state fetches.fetches)),
         ap (λ (e : Entries K V We B L). e.expired) fetches.rest ∙ mid.1,
       )
+
+module _ {K V We B L : Type 0} (stands_for : K → Bool) (now until : ℕ) (old : Entries K V We B L)
+    (over : AllFit (λ _ (lasting : Lasting V). lives lasting.until now ≡ false) old.cache.state) where
+  -- an item is over
+  abbrev IsOver : K → Lasting V → Type 0
+  IsOver _ lasting = lives lasting.until now ≡ false
+
+  each-over : (place : Place) → AllByRecursion (FitsIn IsOver) (items_at place old.cache.state)
+  each-over InHot = over.hot
+  each-over InCold = over.cold
+  each-over InStill = over.still
+
+  -- so is what is looked up
+  looked_up-over : (seen : Lasting V) (new : CacheState K (Lasting V))
+      → LooksUp stands_for old.cache.state (λ item. item.value) (Some seen) new
+      → lives seen.until now ≡ false
+  looked_up-over _ _ (LooksUp.hit place before item after there) =
+      all-middle (FitsIn IsOver) before item after
+      (subst (λ (xs : List (Item K (Lasting V))). AllByRecursion (FitsIn IsOver) xs) there.split
+      (each-over place))
+
+  -- and none is renewed
+  pub none-renewed : (rules : Rules K (Lasting V)) (new : Entries K V We B L) (renewed : Bool)
+      → Touches rules stands_for now until old renewed new → renewed ≡ false
+  none-renewed rules new false touches = refl
+  none-renewed rules new true renews =
+      renews.looks_up.said ∙ looked_up-over renews.found _ renews.looks_up.looks_up.holds

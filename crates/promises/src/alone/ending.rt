@@ -1,6 +1,6 @@
 //! What those rely on who fill, bound or purge a cache for one thread whose entries end, or claim
 //! a load.
-ghost use Rattle.std.specs.Prelude.{◌≡◌, ℕ, IfNone, IfOk, IfSome, OnErr, Ok, true, false};
+ghost use Rattle.std.specs.Prelude.{◌≡◌, ◌+◌, ◌≤◌, ℕ, IfNone, IfOk, IfSome, OnErr, Ok, true, false};
 ghost use Rattle.std.specs.List.{Contains};
 ghost use Rattle.quick_cache_model.specs.CacheState.{Item};
 ghost use Rattle.quick_cache_model.specs.Finding.{HasNoItem};
@@ -80,12 +80,28 @@ pub fn take_one_over(entries: &mut Expiring<u64, u64>, now: u64) -> Option<(u64,
     entries.take_over(now).next()
 }
 
+/// Where all are over, none is renewed.
+pub fn touch_when_over(entries: &mut Expiring<u64, u64>, key: &u64, now: u64, life: u64) -> bool
+    requires over { AllFit (λ _ lasting. lives lasting.until now ≡ false) entries.old.cache.state }
+    ensures { result ≡ false }
+{
+    entries.touch(key, now, life)
+}
+
 /// A load is claimed once at a moment.
 pub fn claim_again(loaded: &mut Loaded<u64>, refresh_after: u64, now: u64) -> bool
     ensures { result ≡ false }
 {
     loaded.claim(refresh_after, now);
     loaded.claim(refresh_after, now)
+}
+
+/// What is over is not young, whenever its loader was asked.
+pub fn ask_when_over(loaded: &Loaded<u64>, life: u64, refresh_after: u64, now: u64) -> bool
+    requires over { loaded.now.moment + life ≤ now }
+    ensures { result ≡ false }
+{
+    loaded.is_young(life, refresh_after, now)
 }
 
 /// What was just loaded is not due, nor is a clone of it.

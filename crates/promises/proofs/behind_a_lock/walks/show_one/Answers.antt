@@ -1,0 +1,10 @@
+use Rattle.quick_cache_shard.specs.PlaceWalks.{EndsAt}
+use Rattle.promises.proofs.SharedLemmas.{passed-each, nothing-shown}
+use Rattle.promises.proofs.behind_a_lock.walks.show_one.Goals as goal
+
+-- the walk began at the first shard, and ended behind the last
+pub returns : goal.returns
+returns g c =
+    passed-each g.L.Lifecycle g.K.PartialEq.eq (λ shard after. EndsAt shard.places after)
+    c.next.result _ _ c.iter.result.at c.next.new.self.at c.iter.ensures.begins c.iter.ensures.shards
+    c.next.ensures.steps.2 (nothing-shown _ c.next.result c.next.new.self.at c.next.ensures.steps.3)
