@@ -1,14 +1,17 @@
 -- Answers, from what was loaded and from what was stored.
-use Rattle.std.proofs.Common.{◌≡◌, ℕ, Bool, IsTrue, Option, Some, None, IfSome, Result, Ok, Err, IfOk, ◌∙◌, refl, sym, subst, arith}
+use Rattle.std.proofs.Common.{◌≡◌, ℕ, Bool, IsTrue, Option, Some, None, IfSome, Result, Ok, Err, IfOk, IfErr, ◌∙◌, refl, sym, subst, arith}
 use Rattle.std.specs.Cmp.{IsEquivalence}
+use denote.Ref.{Bor}
+use denote.Param.Members.{Shared}
 use Rattle.quick_cache_locked.specs.Fitting.{ClonesFit, FitsQuery}
 use Rattle.quick_cache_guard.specs.Futures.{GivesFor}
 use Rattle.quick_cache_model.specs.declared.refusal.Refusal.{Refusal}
 use Rattle.quick_cache_expiring.specs.declared.loaded.Loaded.{Loaded}
 use Rattle.read_through.specs.declared.given.Given.{Given}
 use Rattle.quick_cache_expiring.specs.Moments.{Serves, IsFresh, IsWithin}
-use Rattle.read_through.specs.Answers.{Answers, AnswersLate, IsOf, GivesClones}
+use Rattle.read_through.specs.Answers.{Answers, AnswersFor, AnswersLate, IsOf, GivesClones}
 use Rattle.read_through.specs.Givens.{IfFresh, IfStale}
+use Rattle.read_through.specs.Loads.{Loads, LoadsSome}
 
 -- what is loaded now is fresh
 pub IsFresh-own : (life now : ℕ) → IsFresh life now now
@@ -51,6 +54,62 @@ module _ {V E : Type 0} where
   IfOk-called may P loads (Ok value) called = loads value called
   IfOk-called may P loads (Err error) called = tt
 
+module _ {K V : Type 0} (gives : K → ℕ → V → Type 0) (equal : K → K → Bool) (stands_for : K → Bool)
+    (now : ℕ) where
+  -- what is stored under a key that a query stands for, and serves, is an answer for the query
+  pub AnswersFor-found : (life_of : V → ℕ → ℕ) (found : Loaded V)
+      → FitsQuery (λ (key : K) (loaded : Loaded V).
+      IsOf gives equal key loaded.moment loaded.value) stands_for found
+      → Serves (life_of found.value found.moment) found.moment now
+      → AnswersFor gives equal stands_for life_of now found.value
+  AnswersFor-found life_of found fits serves = record {
+    key = fits.key;
+    stands = fits.stands;
+    answers = record {
+      moment = found.moment;
+      source = fits.fits_key;
+      fresh = IsFresh-stored (life_of found.value found.moment) found.moment now serves;
+    };
+  }
+
+  -- so is what is answered for such a key, whose values live as long
+  pub AnswersFor-key : (key : K) → IsTrue (stands_for key) → (own life_of : V → ℕ → ℕ)
+      → ((value : V) (moment : ℕ) → own value moment ≡ life_of value moment)
+      → {E : Type 0} (answer : Result V E) → IfOk answer (Answers gives equal key own now)
+      → IfOk answer (AnswersFor gives equal stands_for life_of now)
+  AnswersFor-key key stands own life_of alike (Ok value) answers = record {
+    key = key;
+    stands = stands;
+    answers = record {
+      moment = answers.moment;
+      source = answers.source;
+      fresh = subst (λ life. IsFresh life answers.moment now) (alike value answers.moment)
+          answers.fresh;
+    };
+  }
+  AnswersFor-key key stands own life_of alike (Err error) answers = tt
+
+  -- the same where the load may fail
+  pub AnswersFor-tried : (key : K) → IsTrue (stands_for key) → (own life_of : V → ℕ → ℕ)
+      → ((value : V) (moment : ℕ) → own value moment ≡ life_of value moment)
+      → {E : Type 0} (answer : Result (Result V E) Refusal)
+      → IfOk answer (λ loaded. IfOk loaded (Answers gives equal key own now))
+      → IfOk answer (λ loaded. IfOk loaded (AnswersFor gives equal stands_for life_of now))
+  AnswersFor-tried key stands own life_of alike (Ok loaded) answers =
+      AnswersFor-key key stands own life_of alike loaded answers
+  AnswersFor-tried key stands own life_of alike (Err refusal) answers = tt
+
+-- an error of one of these keys is of some of them
+pub LoadsSome-tried : {F K V E : Type 0} (calls : Shared F (Bor K × (ℕ × Unit {0})) (Result V E))
+    (loader : F) (may : K → Type 0) (now : ℕ) (key : K) → may key
+    → (answer : Result (Result V E) Refusal)
+    → IfOk answer (λ loaded. IfErr loaded (λ error. Loads calls loader key now (Err error)))
+    → IfOk answer (λ loaded. IfErr loaded (λ error. LoadsSome calls loader may now (Err error)))
+LoadsSome-tried calls loader may now key is (Ok (Ok value)) loads = tt
+LoadsSome-tried calls loader may now key is (Ok (Err error)) loads =
+    record { key = key; is = is; loads = loads }
+LoadsSome-tried calls loader may now key is (Err refusal) loads = tt
+
 module _ {K V : Type 0} (gives : K → ℕ → V → Type 0) (equal : K → K → Bool)
     (laws : IsEquivalence equal) where
   -- and its value for one is its value for an equal one
@@ -70,6 +129,16 @@ module _ {K V : Type 0} (gives : K → ℕ → V → Type 0) (equal : K → K �
   IfSome-fits asked None fits = tt
   IfSome-fits asked (Some loaded) fits =
       IsOf-same asked fits.key loaded.moment loaded.value fits.stands fits.fits_key
+
+  -- so a key for which another answers that is equal is answered likewise
+  pub Answers-for : (asked : K) (life_of : V → ℕ → ℕ) (now : ℕ) (value : V)
+      → AnswersFor gives equal (equal asked) life_of now value
+      → Answers gives equal asked life_of now value
+  Answers-for asked life_of now value given = record {
+    moment = given.answers.moment;
+    source = IsOf-same asked given.key given.answers.moment value given.stands given.answers.source;
+    fresh = given.answers.fresh;
+  }
 
   -- a clone of what the source gives is what it gives
   pub IsOf-clone : (is_clone : V → V → Type 0) → GivesClones gives is_clone → (key : K)

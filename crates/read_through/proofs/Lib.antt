@@ -1,3 +1,4 @@
 mod AnswerLemmas
+mod LookLemmas
 mod ManyLemmas
 mod RenewLemmas

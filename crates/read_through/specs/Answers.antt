@@ -24,6 +24,13 @@ module _ {K V : Type 0} (gives : K → ℕ → V → Type 0) where
       pub source : IsOf equal asked moment value
       pub within : IsWithin (life_of value moment) grace moment now
 
+  -- who asks for a key that the query stands for is answered this value, by the life of the query
+  pub record AnswersFor (equal : K → K → Bool) (stands_for : K → Bool) (life_of : V → ℕ → ℕ)
+      (now : ℕ) (value : V) : Type 0 where
+    pub key : K
+    pub stands : IsTrue (stands_for key)
+    pub answers : Answers equal key life_of now value
+
   -- a clone of what the source gives is what the source gives
   abbrev pub GivesClones : (V → V → Type 0) → Type 0
   GivesClones is_clone = (key : K) (moment : ℕ) (value clone : V) → is_clone value clone

@@ -11,6 +11,12 @@ module _ {F K R : Type 0} (calls : Shared F (Bor K × (ℕ × Unit {0})) R) (loa
     pub shows : shown.now ≡ key
     pub says : FnReturns calls loader (shown, (moment, tt)) given
 
+  -- the same at one of the keys of which this is true
+  pub record LoadsSome (may : K → Type 0) (moment : ℕ) (given : R) : Type 0 where
+    pub key : K
+    pub is : may key
+    pub loads : Loads key moment given
+
   -- whatever it gives for a key at a moment is of this source
   abbrev pub LoadsFrom : (K → ℕ → R → Type 0) → Type 0
   LoadsFrom gives = (key : K) (moment : ℕ) (given : R) → moment < 2 ^ 64

@@ -1,4 +1,4 @@
-//! How an answer is found: under the lock to read where it serves, else by a guard.
+//! How an answer is found that no look under the lock to read gave: by a guard.
 ghost use Rattle.std.specs.Prelude.{◌≡◌, ◌↔◌, IsTrue, Ok, Err, None, IfOk, IfErr, IfSome, false};
 ghost use Rattle.quick_cache_guard.specs.Answers.{IsLoadRefusal};
 ghost use Rattle.quick_cache_guard.specs.Entries.{IfGivenBack, IfGuarded, IfRetained, IsRefusedAsLoad, is_late};
@@ -6,7 +6,6 @@ ghost use Rattle.quick_cache_expiring.specs.Looks.{IfRetain, Stays};
 ghost use Rattle.quick_cache_expiring.specs.Moments.{Serves};
 ghost use Rattle.read_through.specs.Answers.{Answers, AnswersLate, GivesClones, IsOf};
 ghost use Rattle.read_through.specs.Renewals.{ChoosesToClaim, ChoosesToRenew, Claims, Renews};
-ghost use Rattle.read_through.specs.Serving.{ServesYoung};
 ghost use Rattle.read_through.specs.Givens.{IfFailed, IfFresh, IfStale, is_unasked};
 
 use crate::fresh::Fresh;
@@ -34,29 +33,6 @@ impl<
     We: Weighter<K, V>,
     B: BuildHasher,
 > ReadThrough<K, V, F, S, A, Li, We, B> {
-    /// The value that is stored under the key, where it serves and its loader was asked no longer ago
-    /// than `refresh_after`. It takes the read lock of the key's shard alone.
-    #[inline(always)]
-    pub(crate) fn served<R: Wait>(&self, rt: &R, key: &K, now: u64, refresh_after: u64) -> Option<V>
-        requires clones { GivesClones S.gives V.is_clone }
-        ensures fresh { IfSome result
-            (Answers S.gives K.eq key.now (Li.life_of self.now.lives key.now) now) }
-        // It stood under the key, and its loader was asked no longer ago than that.
-        ensures young { IfSome result (ServesYoung We B ⟦<Fresh<S> as Lifecycle<K, Loaded<V>>>⟧
-            K.eq V.is_clone key.now (Li.life_of self.now.lives key.now) refresh_after now) }
-    {
-        let Ok(Some(found)) = self.cache.find(rt, key) else {
-            return None;
-        };
-        let life = self.lives.life(key, &found.value, found.moment);
-        if !found.is_young(life, refresh_after, now) {
-            // The look that follows counts it.
-            self.not_hits.fetch_add(1, Ordering::SeqCst);
-            return None;
-        }
-        Some(found.value)
-    }
-
     /// Answers what is stored and serves, or what the load gives, which is called once at most; and
     /// where the caller takes it, what is within the grace. It is for what `served` does not answer;
     /// where nothing is there, the guard comes of its look.

@@ -1,15 +1,16 @@
 //! Answers: what is stored and still lives, or what the loader gives.
-ghost use Rattle.std.specs.Prelude.{◌≡◌, IsTrue, Ok, Err, IfOk, IfErr, false};
+ghost use Rattle.std.specs.Prelude.{◌≡◌, ℕ, IsTrue, Ok, Err, IfOk, IfErr, false};
 ghost use Rattle.quick_cache_guard.specs.Answers.{IsLoadRefusal};
-ghost use Rattle.read_through.specs.Answers.{Answers, AnswersLate, GivesClones};
+ghost use Rattle.quick_cache_model.specs.Hashing.{StandsForGiven};
+ghost use Rattle.read_through.specs.Answers.{Answers, AnswersFor, AnswersLate, GivesClones};
 ghost use Rattle.read_through.specs.Givens.{IfFailed, IfFresh, IfStale, is_unasked};
-ghost use Rattle.read_through.specs.Loads.{Loads, LoadsFrom, LoadsOkFrom};
+ghost use Rattle.read_through.specs.Loads.{Loads, LoadsFrom, LoadsOkFrom, LoadsSome};
 
 use crate::future::GetFuture;
 use crate::given::{Given, Source};
 use crate::lives::Lives;
 use crate::reading::ReadThrough;
-use quick_cache_model::{Refusal, Weighter};
+use quick_cache_model::{Refusal, ToKey, Weighter};
 use std::alloc::Allocator;
 use std::convert::Infallible;
 use std::hash::{BuildHasher, Hash};
@@ -49,6 +50,42 @@ impl<
         ensures refused { IfErr result IsLoadRefusal }
     {
         self.get_or_refresh(rt, key, now, u64::MAX)
+    }
+
+    /// The value of the query's key, as `get` gives it. What serves is found by the query, and no key is
+    /// made of it; else one is made, once, and that is asked for.
+    ///
+    /// # Errors
+    ///
+    /// As `get`, and `Memory` where no key could be made. The loader was not called then.
+    pub fn get_by<Q: ToKey<K>, R: Wait + Clock>(
+        &self,
+        rt: &R,
+        query: &Q,
+        now: u64,
+    ) -> Result<V, Refusal>
+    where
+        F: Fn(&K, u64) -> V,
+        Li: Lives<Q, V>,
+        requires stands { StandsForGiven (Q.to_key_gives query.now) (Q.equivalent query.now) }
+        requires keys { (key copy : K) → Q.to_key_gives query.now key → K.is_clone key copy
+            → IsTrue (K.eq key copy) }
+        // A value of a key that the query gives lives as long as one of the query.
+        requires lives { (key : K) → Q.to_key_gives query.now key → (value : V) (moment : ℕ)
+            → ⟦<Li as Lives<K, V>>⟧.life_of self.now.lives key value moment
+            ≡ ⟦<Li as Lives<Q, V>>⟧.life_of self.now.lives query.now value moment }
+        requires callable { F.IsAlwaysCallable self.now.loader }
+        requires loads { LoadsFrom F.Fn self.now.loader S.gives }
+        requires clones { GivesClones S.gives V.is_clone }
+        ensures fresh { IfOk result (AnswersFor S.gives K.eq (Q.equivalent query.now)
+            (⟦<Li as Lives<Q, V>>⟧.life_of self.now.lives query.now) now) }
+        ensures refused { IfErr result IsLoadRefusal }
+    {
+        if let Some(value) = self.served(rt, query, now, u64::MAX) {
+            return Ok(value);
+        }
+        let key = query.to_key()?;
+        self.get(rt, &key, now)
     }
 
     /// A future that gives the value of the key, as `get` does. What it gives, and what a poll asks of
@@ -156,6 +193,44 @@ impl<
             Ok(Err(error)) => Ok(Err(error)),
             Err(refusal) => Err(refusal),
         }
+    }
+
+    /// As `get_by`, where the loader may fail, as `try_get`.
+    ///
+    /// # Errors
+    ///
+    /// Of the two, the outer one is why the loader was not called, and the inner one is its own.
+    pub fn try_get_by<Q: ToKey<K>, R: Wait + Clock, E: Drop>(
+        &self,
+        rt: &R,
+        query: &Q,
+        now: u64,
+    ) -> Result<Result<V, E>, Refusal>
+    where
+        F: Fn(&K, u64) -> Result<V, E>,
+        Li: Lives<Q, V>,
+        requires stands { StandsForGiven (Q.to_key_gives query.now) (Q.equivalent query.now) }
+        requires keys { (key copy : K) → Q.to_key_gives query.now key → K.is_clone key copy
+            → IsTrue (K.eq key copy) }
+        requires lives { (key : K) → Q.to_key_gives query.now key → (value : V) (moment : ℕ)
+            → ⟦<Li as Lives<K, V>>⟧.life_of self.now.lives key value moment
+            ≡ ⟦<Li as Lives<Q, V>>⟧.life_of self.now.lives query.now value moment }
+        requires callable { F.IsAlwaysCallable self.now.loader }
+        requires loads { LoadsOkFrom F.Fn self.now.loader S.gives }
+        requires clones { GivesClones S.gives V.is_clone }
+        ensures fresh { IfOk result (λ loaded. IfOk loaded (AnswersFor S.gives K.eq
+            (Q.equivalent query.now)
+            (⟦<Li as Lives<Q, V>>⟧.life_of self.now.lives query.now) now)) }
+        // The error is the loader's, for a key that the query gives at this moment.
+        ensures error { IfOk result (λ loaded. IfErr loaded (λ error.
+            LoadsSome F.Fn self.now.loader (Q.to_key_gives query.now) now (Err error))) }
+        ensures refused { IfErr result IsLoadRefusal }
+    {
+        if let Some(value) = self.served(rt, query, now, u64::MAX) {
+            return Ok(Ok(value));
+        }
+        let key = query.to_key()?;
+        self.try_get(rt, &key, now)
     }
 
     /// As `get_or_refresh`, where the loader may fail. Then the value that still serves is answered

@@ -15,7 +15,7 @@ returns-clause-young g c =
       holds = record {
         found = c.in-Ok-Some.found;
         shows = subst
-            (λ (shown : Option (Loaded _)). Peeks (g.K.PartialEq.eq c.args.key.now)
+            (λ (shown : Option (Loaded _)). Peeks (g.Q.Equivalent.equivalent c.args.query.now)
             (ClonesLoaded g.V.Clone.is_clone) some.shard.state (Ok shown))
             c.in-Ok-Some.field-0-is
             some.holds;
