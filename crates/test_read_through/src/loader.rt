@@ -7,3 +7,4 @@ pub mod many;
 pub mod refused;
 pub mod rows;
 pub mod tasks;
+pub mod texts;

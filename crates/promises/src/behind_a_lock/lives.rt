@@ -64,6 +64,63 @@ pub fn refresh_living<R: Wait + Clock, F: Fn(&u64, u64) -> WithLife<Address>>(
     addresses.get_or_refresh(rt, &name, now, refresh_after)
 }
 
+/// So is one that is asked for by a query, whose name the query stands for.
+pub fn get_living_by<R: Wait + Clock, Q: ToKey<u64>, F: Fn(&u64, u64) -> WithLife<Address>>(
+    rt: &R,
+    addresses: &Addresses<F>,
+    query: &Q,
+    now: u64,
+) -> Result<WithLife<Address>, Refusal>
+    requires stands { StandsForGiven (Q.to_key_gives query.now) (Q.equivalent query.now) }
+    requires callable { F.IsAlwaysCallable addresses.now.loader }
+    requires says { LoadsFrom F.Fn addresses.now.loader
+        ⟦<Server as Source<u64, WithLife<Address>>>⟧.gives }
+    ensures name { IfOk result (λ answer. IsTrue (Q.equivalent query.now answer.value.name)) }
+    ensures lives { IfOk result (λ answer. 0 < answer.life
+        → now < answer.value.asked + answer.life) }
+    ensures own { IfOk result (λ answer. answer.life ≡ 0 → answer.value.asked ≡ now) }
+    ensures refused { IfErr result IsLoadRefusal }
+{
+    addresses.get_by(rt, query, now)
+}
+
+/// Where the server may be away its error is of a name that the query gives.
+pub fn try_living_by<
+    R: Wait + Clock,
+    Q: ToKey<u64>,
+    F: Fn(&u64, u64) -> Result<WithLife<Address>, u8>,
+>(rt: &R, addresses: &Addresses<F>, query: &Q, now: u64) -> Option<Result<WithLife<Address>, u8>>
+    requires stands { StandsForGiven (Q.to_key_gives query.now) (Q.equivalent query.now) }
+    requires callable { F.IsAlwaysCallable addresses.now.loader }
+    requires says { LoadsOkFrom F.Fn addresses.now.loader
+        ⟦<Server as Source<u64, WithLife<Address>>>⟧.gives }
+    ensures name { IfSome result (λ loaded. IfOk loaded
+        (λ answer. IsTrue (Q.equivalent query.now answer.value.name))) }
+    ensures error { IfSome result (λ loaded. IfErr loaded (λ error.
+        LoadsSome F.Fn addresses.now.loader (Q.to_key_gives query.now) now (Err error))) }
+{
+    match addresses.try_get_by(rt, query, now) {
+        Ok(loaded) => Some(loaded),
+        Err(_) => None,
+    }
+}
+
+/// What is looked at is of the name, and lives; a clone of it never fails.
+pub fn peek_living<R: Wait, F>(
+    rt: &R,
+    addresses: &Addresses<F>,
+    name: u64,
+    now: u64,
+) -> Option<WithLife<Address>>
+    ensures name { IfSome result (λ answer. answer.value.name ≡ name) }
+    ensures lives { IfSome result (λ answer. now < answer.value.asked + answer.life) }
+{
+    match addresses.peek(rt, &name, now) {
+        Ok(found) => found,
+        Err(_) => unreachable!(),
+    }
+}
+
 /// So is one that a task is given, by the first poll or by a later one.
 pub fn poll_living<R: Wait + Clock, F: Fn(&u64, u64) -> WithLife<Address>>(
     rt: &R,

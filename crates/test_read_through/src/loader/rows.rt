@@ -118,4 +118,9 @@ fn an_error_is_stored_nowhere(rt: HostRuntime) {
     }
     let stats = loaded.stats(&rt);
     expect_eq!(rt; (stats.loads, stats.failed_loads), (3, 2));
+    let by = [
+        loaded.try_get_by(&rt, &1, 14),
+        loaded.try_get_by(&rt, &2, 4),
+    ];
+    expect_eq!(rt; by, [Ok(Ok(105)), Ok(Err(4))]);
 }
