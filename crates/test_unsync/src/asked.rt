@@ -11,6 +11,7 @@ use test_tools::expect_eq;
 #[derive(Drop)]
 pub(crate) enum Ask<K, V> {
     Insert(K, V),
+    Put(K, V),
     Get(K),
     /// Looks whether the value is this one.
     GetIf(K, V),
@@ -26,7 +27,7 @@ pub(crate) enum Ask<K, V> {
     Set(K, V),
     Remove(K),
     Weight,
-    /// Tells the number of items, their weight, the capacity, the hits and the misses.
+    /// As [`counts`].
     Counts,
 }
 
@@ -60,6 +61,19 @@ fn tested<K, V>(value: Result<V, Miss>) -> Said<K, V> {
     }
 }
 
+/// The number of items, their weight, the capacity, the hits and the misses.
+pub(crate) fn counts<K: Eq + Hash, V, We, B: BuildHasher, L, A: Allocator>(
+    cache: &Cache<K, V, We, B, L, A>,
+) -> [u64; 5] {
+    [
+        cache.len() as u64,
+        cache.weight(),
+        cache.capacity(),
+        cache.hits(),
+        cache.misses(),
+    ]
+}
+
 /// Makes a call.
 fn call<
     K: Eq + Hash + Copy,
@@ -76,6 +90,10 @@ where
         Ask::Insert(key, value) => match cache.insert(key, value) {
             Ok(()) => Said::Done,
             Err((_, _, refusal)) => Said::Refused(refusal),
+        },
+        Ask::Put(key, value) => match cache.put(key, value) {
+            Ok(()) => Said::Done,
+            Err(refusal) => Said::Refused(refusal),
         },
         Ask::Get(key) => found(cache.get(&key).copied()),
         Ask::GetIf(key, wanted) => {
@@ -109,13 +127,7 @@ where
             None => Said::Nothing,
         },
         Ask::Weight => Said::Count(cache.weight()),
-        Ask::Counts => Said::Counts([
-            cache.len() as u64,
-            cache.weight(),
-            cache.capacity(),
-            cache.hits(),
-            cache.misses(),
-        ]),
+        Ask::Counts => Said::Counts(counts(cache)),
     }
 }
 

@@ -1,9 +1,10 @@
 //! Lifecycles that are ready made: pins by what others hold, listeners that hear why a pair left,
 //! and counts.
+use crate::asked::{Ask, Said, answers, counts};
 use quick_cache_base::{DefaultHashBuilder, UnitWeighter};
 use quick_cache_listeners::{
     ByLength, Cause, Collect, Collected, Counted, Counts, Held, Ignore, ListenerWhy, OnLeave,
-    OnLeaveWhy, Owed, Owing, PinHeld, Request, SharedTallies, Tally, TellsTaken,
+    OnLeaveWhy, Owed, Owing, PinHeld, Request, SharedTallies, Tallies, Tally, TellsTaken,
 };
 use quick_cache_unsync::{Cache, DefaultLifecycle};
 use std::alloc::Global;
@@ -23,13 +24,19 @@ type InUse = Cache<
     PinHeld<DefaultLifecycle<u64, Arc<u64>>>,
 >;
 
-/// Writes these numbers, and looks each up.
-fn use_others(rt: &impl Abort, alloc: Global, cache: &mut InUse, numbers: Range<u64>) {
+/// Writes these numbers, looks each up, and tells whether 2 is there then, and how many there are.
+fn use_others(
+    rt: &impl Abort,
+    alloc: Global,
+    cache: &mut InUse,
+    numbers: Range<u64>,
+) -> (bool, usize) {
     for number in numbers {
         let value = expect_ok!(rt; Arc::new(alloc, number));
         expect_eq!(rt; cache.put(number, value), Ok(()));
         cache.get(&number);
     }
+    (cache.contains_key(&2), cache.len())
 }
 
 #[test]
@@ -41,21 +48,23 @@ fn what_a_thread_holds_stays(rt: HostRuntime) {
     let held = expect_ok!(rt; Arc::new(rt.alloc(), 2));
     let own = expect_ok!(rt; held.clone());
     expect_eq!(rt; cache.put(2, own), Ok(()));
-    use_others(&rt, rt.alloc(), &mut cache, 3..10);
-    expect_eq!(rt; (cache.contains_key(&2), cache.len()), (true, 2));
+    expect_eq!(rt; use_others(&rt, rt.alloc(), &mut cache, 3..10), (true, 2));
     drop(held);
-    use_others(&rt, rt.alloc(), &mut cache, 10..20);
-    expect_eq!(rt; (cache.contains_key(&2), cache.len()), (false, 2));
+    expect_eq!(rt; use_others(&rt, rt.alloc(), &mut cache, 10..20), (false, 2));
+}
+
+/// Whether a handle is held where it is the only one, and where there is a second one.
+fn are_held<H: Held + Clone + Drop>(rt: &impl Abort, alone: H) -> [bool; 2] {
+    let is_held = alone.is_held();
+    let other = expect_ok!(rt; alone.clone());
+    [is_held, other.is_held()]
 }
 
 #[test]
 fn a_second_handle_holds_and_the_only_one_does_not(rt: HostRuntime) {
     let alone = expect_ok!(rt; Rc::new(rt.alloc(), 1));
     let shared = expect_ok!(rt; Arc::new(rt.alloc(), 1));
-    let are_held = [alone.is_held(), shared.is_held()];
-    let other = expect_ok!(rt; alone.clone());
-    let others = expect_ok!(rt; shared.clone());
-    expect_eq!(rt; (are_held, [other.is_held(), others.is_held()]), ([false; 2], [true; 2]));
+    expect_eq!(rt; [are_held(&rt, alone), are_held(&rt, shared)], [[false, true]; 2]);
 }
 
 /// Notes which pair left last, and why.
@@ -86,8 +95,39 @@ fn a_put_tells_why_each_pair_left(rt: HostRuntime) {
         (4, "much too long", Some((4, Cause::EvictedCold))),
     ] {
         last.set(None);
-        expect_eq!(rt; (cache.put(key, text), last.get()), (Ok(()), left));
+        answers(&rt, &mut cache, &[(Ask::Put(key, text), Said::Done)]);
+        expect_eq!(rt; (key, last.get()), (key, left));
     }
+}
+
+/// A cache whose calls owe what left to their caller.
+type InDebt = Cache<u64, u64, UnitWeighter, DefaultHashBuilder, OnLeaveWhy<Owing<Collect>>>;
+
+/// What they owe.
+type Debt = Request<Owed<Collected<u64, (u64, Cause)>>>;
+
+/// Writes pairs, with a call for each.
+fn insert_owing(rt: &impl Abort, cache: &mut InDebt, owed: &mut Debt) {
+    for (key, value) in [(1, 10), (2, 20), (3, 30)] {
+        owed.begin();
+        expect_eq!(rt; cache.insert_with_lifecycle(key, value, owed), Ok(()));
+    }
+}
+
+/// Fills a guard.
+fn fill_owing(cache: &mut InDebt, owed: &mut Debt) {
+    owed.begin();
+    if let Ok(Err(guard)) = cache.get_ref_or_guard(&4) {
+        guard.insert_with_lifecycle(40, owed);
+    }
+}
+
+/// Writes over its pair, and lets all go.
+fn replace_and_shrink_owing(rt: &impl Abort, cache: &mut InDebt, owed: &mut Debt) {
+    owed.begin();
+    expect_eq!(rt; cache.replace_with_lifecycle(4, 41, false, owed), Ok(()));
+    owed.begin();
+    cache.set_capacity_with_lifecycle(0, owed);
 }
 
 #[test]
@@ -96,18 +136,9 @@ fn what_leaves_is_owed_until_its_state_is_taken_apart(rt: HostRuntime) {
     let owing = OnLeaveWhy(Owing(Collect));
     let mut cache = expect_ok!(rt; Cache::with(rt.alloc(), 2, 2, UnitWeighter, builder, owing));
     let mut owed = Request::with(Owed(Collected::with(Vec::new(rt.alloc()))));
-    for (key, value) in [(1, 10), (2, 20), (3, 30)] {
-        owed.begin();
-        expect_eq!(rt; cache.insert_with_lifecycle(key, value, &mut owed), Ok(()));
-    }
-    owed.begin();
-    if let Ok(Err(guard)) = cache.get_ref_or_guard(&4) {
-        guard.insert_with_lifecycle(40, &mut owed);
-    }
-    owed.begin();
-    expect_eq!(rt; cache.replace_with_lifecycle(4, 41, false, &mut owed), Ok(()));
-    owed.begin();
-    cache.set_capacity_with_lifecycle(0, &mut owed);
+    insert_owing(&rt, &mut cache, &mut owed);
+    fill_owing(&mut cache, &mut owed);
+    replace_and_shrink_owing(&rt, &mut cache, &mut owed);
     let Request {
         state: Owed(left),
         stage: _,
@@ -143,6 +174,17 @@ cache_retained_total 1
 cache_retained_weight_total 6
 ";
 
+/// Stops the test where another number of pairs, or of their weights, was counted under a cause.
+fn tells(rt: &impl Abort, told: &Tallies, tallies: &[(Cause, u64, u64)]) {
+    for (cause, pairs, weight) in tallies {
+        let wanted = Tally {
+            pairs: *pairs,
+            weight: *weight,
+        };
+        expect_eq!(rt; (*cause, told.of(*cause)), (*cause, wanted));
+    }
+}
+
 /// Counts what leaves, by the length of its text, and does nothing else.
 const COUNTED: Counted<ByLength, OnLeave<Ignore>> = Counted(ByLength, OnLeave(Ignore));
 
@@ -150,15 +192,14 @@ const COUNTED: Counted<ByLength, OnLeave<Ignore>> = Counted(ByLength, OnLeave(Ig
 fn what_the_caller_takes_out_is_counted_by_its_cause(rt: HostRuntime) {
     let builder = DefaultHashBuilder::new();
     let mut cache = expect_ok!(rt; Cache::with(rt.alloc(), 10, 100, ByLength, builder, COUNTED));
-    for (key, text) in [
-        (1, "one"),
-        (2, "three"),
-        (3, "fourth"),
-        (4, "seventh"),
-        (5, "eleventh"),
-    ] {
-        expect_eq!(rt; cache.put(key, text), Ok(()));
-    }
+    let row = &[
+        (Ask::Put(1, "one"), Said::Done),
+        (Ask::Put(2, "three"), Said::Done),
+        (Ask::Put(3, "fourth"), Said::Done),
+        (Ask::Put(4, "seventh"), Said::Done),
+        (Ask::Put(5, "eleventh"), Said::Done),
+    ];
+    answers(&rt, &mut cache, row);
     let mut told: Request<Counts<()>> = Request::default();
     for key in [1, 1] {
         COUNTED.tell_each_taken(&mut told, cache.remove(&key).into_iter(), Cause::Removed);
@@ -169,15 +210,14 @@ fn what_the_caller_takes_out_is_counted_by_its_cause(rt: HostRuntime) {
     }
     COUNTED.tell_each_taken(&mut told, cache.drain(), Cause::Cleared);
     COUNTED.tell_taken(&mut told, 6, "nine", Cause::Expired);
-    for (cause, pairs, weight) in [
+    let tallies = &[
         (Cause::Removed, 1, 3),
         (Cause::Retained, 1, 6),
         (Cause::Cleared, 3, 20),
         (Cause::Expired, 1, 4),
         (Cause::Replaced, 0, 0),
-    ] {
-        expect_eq!(rt; told.state.tallies.of(cause), Tally { pairs, weight });
-    }
+    ];
+    tells(&rt, &told.state.tallies, tallies);
     let text = expect_ok!(rt; format!(in rt.alloc(); "{}", told.state.tallies));
     expect_eq!(rt; (cache.len(), text.as_str()), (0, COUNTS_OF_WHAT_WAS_TAKEN));
 }
@@ -186,33 +226,32 @@ fn what_the_caller_takes_out_is_counted_by_its_cause(rt: HostRuntime) {
 fn what_a_predicate_wants_is_taken_by_ascending_token_and_the_rest_stays(rt: HostRuntime) {
     let builder = DefaultHashBuilder::new();
     let mut cache = expect_ok!(rt; Cache::with(rt.alloc(), 10, 100, ByLength, builder, COUNTED));
-    for (key, text) in [
-        (4, "four"),
-        (3, "three"),
-        (2, "two"),
-        (1, "fourth"),
-        (6, "sixth"),
-    ] {
-        expect_eq!(rt; cache.put(key, text), Ok(()));
-    }
-    for key in [3, 3, 2, 9] {
-        let _text = cache.get(&key);
-    }
+    let row = &[
+        (Ask::Put(4, "four"), Said::Done),
+        (Ask::Put(3, "three"), Said::Done),
+        (Ask::Put(2, "two"), Said::Done),
+        (Ask::Put(1, "fourth"), Said::Done),
+        (Ask::Put(6, "sixth"), Said::Done),
+        (Ask::Get(3), Said::Value("three")),
+        (Ask::Get(3), Said::Value("three")),
+        (Ask::Get(2), Said::Value("two")),
+        (Ask::Get(9), Said::Nothing),
+    ];
+    answers(&rt, &mut cache, row);
     let mut told: Request<Counts<()>> = Request::default();
     // The first one that is wanted, and no more.
     let first = cache.extract_if(|key, _| *key % 2 == 0).next();
-    expect_eq!(rt; (first, cache.len(), cache.weight()), (Some((4, "four")), 4, 19));
+    expect_eq!(rt; (first, counts(&cache)), (Some((4, "four")), [4, 19, 100, 3, 1]));
     expect_eq!(rt; cache.extract_if(|_, _| false).next(), None);
     let even = cache.extract_if(|key, text| *key % 2 == 0 && text.len() < 6);
     COUNTED.tell_each_taken(&mut told, even, Cause::Retained);
-    let retained = Tally {
-        pairs: 2,
-        weight: 8,
-    };
-    expect_eq!(rt; told.state.tallies.of(Cause::Retained), retained);
-    expect_eq!(rt; (cache.len(), cache.weight(), cache.hits(), cache.misses()), (2, 11, 3, 1));
-    let reads = [3, 1].map(|key| cache.item_stats(&key).map(|stats| stats.access_count));
-    expect_eq!(rt; reads, [Some(2), Some(0)]);
+    tells(&rt, &told.state.tallies, &[(Cause::Retained, 2, 8)]);
+    let row = &[
+        (Ask::Counts, Said::Counts([2, 11, 100, 3, 1])),
+        (Ask::Reads(3), Said::Count(2)),
+        (Ask::Reads(1), Said::Count(0)),
+    ];
+    answers(&rt, &mut cache, row);
     let text = expect_ok!(rt; format!(in rt.alloc(); "{:?}", cache.extract_if(|_, _| true)));
     expect_eq!(rt; (text.as_str(), cache.len()), ("ExtractIf { .. }", 2));
 }
@@ -245,8 +284,7 @@ fn what_threads_count_is_told_by_its_cause(rt: HostRuntime) {
     ] {
         tallies.count(cause, weight);
     }
-    let seen = tallies.seen();
-    for (cause, pairs, weight) in [
+    let seen = &[
         (Cause::EvictedHot, 1, 10),
         (Cause::EvictedCold, 2, 70),
         (Cause::Replaced, 1, 30),
@@ -255,7 +293,6 @@ fn what_threads_count_is_told_by_its_cause(rt: HostRuntime) {
         (Cause::Removed, 1, 70),
         (Cause::Cleared, 1, 80),
         (Cause::Retained, 1, 90),
-    ] {
-        expect_eq!(rt; seen.of(cause), Tally { pairs, weight });
-    }
+    ];
+    tells(&rt, &tallies.seen(), seen);
 }

@@ -1,4 +1,5 @@
 //! What values weigh by the weighers that are ready made.
+use crate::asked::{Ask, Said, answers};
 use quick_cache_listeners::{ByBytes, ByContent, HasBytes, HasLength, Held, WithBytes};
 use quick_cache_model::Weighter;
 use quick_cache_unsync::Cache;
@@ -111,6 +112,10 @@ fn a_cache_counts_bytes(rt: HostRuntime) {
         (4, "seven", 277, 3),
         (1, "a hundred", 281, 3),
     ] {
-        expect_eq!(rt; (cache.put(key, text), cache.weight(), cache.len()), (Ok(()), weight, len));
+        let row = &[
+            (Ask::Put(key, text), Said::Done),
+            (Ask::Counts, Said::Counts([len, weight, 300, 0, 0])),
+        ];
+        answers(&rt, &mut cache, row);
     }
 }

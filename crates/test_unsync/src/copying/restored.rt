@@ -68,11 +68,16 @@ fn saved(rt: &impl Abort, alloc: Global, cache: &Weighed) -> Vec<Saved> {
     list
 }
 
+/// Stops the test where the items that are saved are others.
+fn saves(rt: &impl Abort, alloc: Global, cache: &Weighed, list: &[Saved]) {
+    expect_eq!(rt; saved(rt, alloc, cache).as_slice(), list);
+}
+
 /// All items of a cache, with which it stands again.
 fn stands_again(rt: &impl Abort, alloc: Global, cache: &Weighed) -> Vec<Saved> {
     let list = saved(rt, alloc, cache);
     let mut again = restored(rt, alloc, cache.capacity(), &list);
-    expect_eq!(rt; saved(rt, alloc, &again).as_slice(), list.as_slice());
+    saves(rt, alloc, &again, &list);
     let counts = [cache.len() as u64, cache.weight(), cache.capacity(), 0, 0];
     answers(rt, &mut again, &[(Ask::Counts, Said::Counts(counts))]);
     list
@@ -152,7 +157,7 @@ fn the_next_write_makes_room_for_what_came_back_too_heavy(rt: HostRuntime) {
 fn a_ring_may_be_empty_where_the_other_is_not(rt: HostRuntime) {
     let cold = [(2, 1, Queue::Cold, 0)];
     let cache = restored(&rt, rt.alloc(), 2, &cold);
-    expect_eq!(rt; saved(&rt, rt.alloc(), &cache).as_slice(), cold.as_slice());
+    saves(&rt, rt.alloc(), &cache, &cold);
 }
 
 /// Whether an item comes back. One that does not is given back, with no refusal.
@@ -184,7 +189,7 @@ fn what_cannot_come_back_is_given_back(rt: HostRuntime) {
         (3, 60, Queue::Hot, 1),
         (4, 0, Queue::Cold, 1),
     ];
-    expect_eq!(rt; saved(&rt, alloc, &cache).as_slice(), list.as_slice());
+    saves(&rt, alloc, &cache, &list);
     // No ghost comes of it.
     answers(&rt, &mut cache, &[(Ask::Remove(1), Said::Pair(1, 4))]);
     expect!(rt; comes_back(&rt, &mut cache, (1, 4, Queue::Cold, 0)));
@@ -199,5 +204,5 @@ fn of_many_pairs_of_a_key_the_first_comes_back(rt: HostRuntime) {
     ];
     let cache = restored(&rt, rt.alloc(), 10, &twice);
     let list = [(1, 1, Queue::Hot, 0), (2, 0, Queue::Hot, 2)];
-    expect_eq!(rt; saved(&rt, rt.alloc(), &cache).as_slice(), list.as_slice());
+    saves(&rt, rt.alloc(), &cache, &list);
 }

@@ -67,6 +67,11 @@ pub(crate) fn counts(shard: &Tested<u64, u64>) -> [u64; 3] {
     [shard.hits(), shard.misses(), shard.len() as u64]
 }
 
+/// Whether these are the hot items, each with this mark.
+pub(crate) fn shows_hot<T: Touches>(shard: &Tested<u64, u64, T>, want: &[(u64, u8)]) -> bool {
+    shows(shard.iter_hot(), want)
+}
+
 #[test]
 fn a_clone_keeps_marks_and_counts(rt: HostRuntime) {
     let mut shard: Tested<u64, u64> = expect_ok!(rt; empty(rt.alloc(), 4));
@@ -75,7 +80,7 @@ fn a_clone_keeps_marks_and_counts(rt: HostRuntime) {
     expect_eq!(rt; shard.get(hash, &1).copied(), Some(10));
     let copy = expect_ok!(rt; shard.try_clone());
     expect_eq!(rt; taken(&mut shard, 1), Some((1, 10)));
-    expect!(rt; shows(copy.iter_hot(), &[(1, 1)]));
+    expect!(rt; shows_hot(&copy, &[(1, 1)]));
     let sizes = [
         copy.weight(),
         copy.capacity(),

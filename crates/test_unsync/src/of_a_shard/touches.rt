@@ -1,5 +1,5 @@
 //! Touches that readers left at an item become marks of it, each one.
-use crate::of_a_shard::rows::{Tested, counts, empty, put};
+use crate::of_a_shard::rows::{Tested, counts, empty, put, shows_hot};
 use quick_cache_base::Refusal;
 use quick_cache_shard::{InsertStrategy, Touches};
 use std::alloc::Global;
@@ -18,7 +18,7 @@ fn overwrites<T: Touches>(
 ) -> bool {
     let (hash, soft) = (shard.hash(&1u64), InsertStrategy::Replace { soft: true });
     let is_written = shard.insert(told, hash, 1, value, soft).is_ok();
-    is_written && shows(shard.iter_hot(), &[(1, mark)])
+    is_written && shows_hot(shard, &[(1, mark)])
 }
 
 /// Writes over an item that was touched, and checks the mark that it then has.
@@ -26,7 +26,7 @@ fn check_mark<T: Touches>(rt: &impl Abort, alloc: Global, mark: u8) {
     let mut shard: Tested<u64, u64, T> = expect_ok!(rt; empty(alloc, 4));
     let mut told = Told::default();
     put(rt, &mut shard, &mut told, &[(1, 10)]);
-    let is_unmarked = shows(shard.iter_hot(), &[(1, 0)]);
+    let is_unmarked = shows_hot(&shard, &[(1, 0)]);
     // They are taken by the first, so they count once.
     let first = overwrites(&mut shard, &mut told, 11, mark);
     let second = overwrites(&mut shard, &mut told, 12, mark);
@@ -48,7 +48,7 @@ fn touched_items_outlive_an_eviction(rt: HostRuntime) {
     put(&rt, &mut shard, &mut told, &[(1, 1), (2, 2), (3, 3)]);
     // The cold item 2 was touched, so it is promoted. Then the hot item 1, touched too, outlives
     // it.
-    expect!(rt; shows(shard.iter_hot(), &[(1, 0)]));
+    expect!(rt; shows_hot(&shard, &[(1, 0)]));
     expect!(rt; shows(shard.iter_cold(), &[(3, 0)]));
     expect!(rt; shows_ghosts(shard.iter_ghosts(), &[]));
     expect_eq!(rt; (told.hot, told.cold), (1, 0));
@@ -69,7 +69,7 @@ fn a_shared_look_up_finds_an_item_and_leaves_its_mark(rt: HostRuntime) {
     put(&rt, &mut shard, &mut Told::default(), &[(1, 10)]);
     let found = [shared(&shard, 1), shared(&shard, 2)];
     expect_eq!(rt; found, [(Some(10), Ok(Some(10))), (None, Ok(None))]);
-    expect!(rt; shows(shard.iter_hot(), &[(1, 0)]));
+    expect!(rt; shows_hot(&shard, &[(1, 0)]));
     // Touches of one thread count nothing.
     expect_eq!(rt; counts(&shard), [0, 0, 1]);
 }
