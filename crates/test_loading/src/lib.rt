@@ -5,6 +5,8 @@
 #![tactic(auto)]
 
 #[cfg(test)]
+mod begun;
+#[cfg(test)]
 mod beside_others;
 #[cfg(test)]
 mod by_tasks;

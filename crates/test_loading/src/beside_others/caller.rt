@@ -178,19 +178,31 @@ fn wait<R: Wait + RandomSource + AllocGlobal>(rt: &R, cache: &Weighed, call: Cal
         return Found::Unknown;
     };
     let mut future = cache.get_value_or_guard_async(rt, &call.key);
+    let mut found = Found::Nothing;
     for turn in 0..20u64 {
-        match task.poll(&mut future) {
-            Poll::Ready(Ok(Ok(value))) => return came(turn, value),
-            Poll::Ready(Ok(Err(guard))) => return end(guard, call),
-            Poll::Ready(Err(_)) => return Found::Unknown,
-            Poll::Pending => yield_now(),
+        if let Poll::Ready(answer) = task.poll(&mut future) {
+            found = waited(answer, turn, call);
+            break;
         }
+        yield_now();
     }
-    Found::Nothing
+    found
 }
 
-/// The same by a future that loads, with a loader that comes late or fails. A guard came where the
-/// value is the loader's.
+/// What came to a future by a poll.
+fn waited<R: Wait>(
+    answer: Result<Result<u64, Guard<'_, R>>, Refusal>,
+    turn: u64,
+    call: Call,
+) -> Found {
+    match answer {
+        Ok(Ok(value)) => came(turn, value),
+        Ok(Err(guard)) => end(guard, call),
+        Err(_) => Found::Unknown,
+    }
+}
+
+/// The same by a future that loads, with a loader that comes late or fails.
 fn load_by_task<R: Wait + RandomSource + AllocGlobal>(
     rt: &R,
     cache: &Weighed,
@@ -204,15 +216,24 @@ fn load_by_task<R: Wait + RandomSource + AllocGlobal>(
         given: (call.coin >> 52 & 3 > 0).then_some(call.value),
     };
     let mut future = cache.get_or_insert_async(rt, &call.key, loader);
+    let mut found = Found::Nothing;
     for turn in 0..20u64 {
-        match task.poll(&mut future) {
-            Poll::Ready(Ok(Ok(value))) if value != call.value => return came(turn, value),
-            Poll::Ready(Ok(_)) => return Found::Nothing,
-            Poll::Ready(Err(_)) => return Found::Unknown,
-            Poll::Pending => yield_now(),
+        if let Poll::Ready(answer) = task.poll(&mut future) {
+            found = loaded(answer, turn, call);
+            break;
         }
+        yield_now();
     }
-    Found::Nothing
+    found
+}
+
+/// What a load told by a poll. A guard came where the value is the loader's.
+fn loaded(answer: Result<Result<u64, ()>, Refusal>, turn: u64, call: Call) -> Found {
+    match answer {
+        Ok(Ok(value)) if value != call.value => came(turn, value),
+        Ok(_) => Found::Nothing,
+        Err(_) => Found::Unknown,
+    }
 }
 
 /// The same by a future that acts on the entry.
@@ -222,13 +243,15 @@ fn act_by_task<R: Wait + RandomSource + AllocGlobal>(rt: &R, cache: &Weighed, ca
     };
     let callback = |_: &u64, value: &mut u64| choose(call, value);
     let mut future = cache.entry_async(rt, &call.key, callback);
+    let mut found = Found::Nothing;
     for _ in 0..20 {
-        match task.poll(&mut future) {
-            Poll::Ready(answer) => return acted(answer, call),
-            Poll::Pending => yield_now(),
+        if let Poll::Ready(answer) = task.poll(&mut future) {
+            found = acted(answer, call);
+            break;
         }
+        yield_now();
     }
-    Found::Nothing
+    found
 }
 
 /// A value that a future found by a poll. One that did not find it at once has waited for it.

@@ -8,7 +8,7 @@ use quick_cache_sync::Cache;
 use std::alloc::AllocGlobal;
 use std::random::RandomSource;
 use std::sync::Wait;
-use std::thread::join;
+use std::thread::map_indices;
 use std::time::{Clock, Duration, Instant};
 use test_tools::{expect_eq, expect_ok};
 
@@ -120,21 +120,10 @@ fn calls_of_four_threads_leave_a_sound_cache(rt: HostRuntime) {
     let cache: Weighed = expect_ok!(rt; Cache::with_weighter(rt.alloc(), 100, 120, ByValue));
     let board = expect_ok!(rt; Board::new(rt.alloc()));
     let (rt, cache, board) = (&rt, &cache, &board);
-    let ((first, second), (third, fourth)) = join(
-        rt,
-        || join(
-            rt,
-            || make_calls(rt, cache, board, 0),
-            || make_calls(rt, cache, board, 1),
-        ),
-        || join(
-            rt,
-            || make_calls(rt, cache, board, 2),
-            || make_calls(rt, cache, board, 3),
-        ),
-    );
+    let calls = &|thread: usize| make_calls(rt, cache, board, thread as u64);
+    let all = expect_ok!(rt; map_indices(rt, rt.alloc(), 4, calls));
     let (mut turns, mut waited, mut wrong) = (0u64, 0u64, None);
-    for seen in [first, second, third, fourth] {
+    for seen in &all {
         turns = turns.saturating_add(seen.turns);
         waited = waited.saturating_add(seen.waited);
         wrong = wrong.or(seen.wrong);

@@ -1,4 +1,5 @@
 //! Entry calls that wait for another's load.
+use crate::begun::{guard_of_one, numbers};
 use futures::task::Poll;
 use futures::test::MockTask;
 use quick_cache_guard::{EntryResult, GuardResult};
@@ -12,11 +13,9 @@ type Text<'a> = String<&'a Rationed<Global>>;
 
 #[test]
 fn an_entry_call_looks_again_after_a_load(rt: HostRuntime) {
-    let cache: Cache<u64, u64> = expect_ok!(rt; Cache::new(rt.alloc(), 100));
+    let cache = numbers(&rt, 100);
     let rt = &rt;
-    let GuardResult::Guard(guard) = cache.get_value_or_guard(rt, &1, None) else {
-        panic!(rt; "the key is absent");
-    };
+    let guard = guard_of_one(rt, &cache);
     let writes = |_: &u64, value: &mut u64| EntryAction::Retain(std::mem::replace(value, 8));
     let mut acts = cache.entry_async(rt, &1, writes);
     let task = expect_ok!(rt; MockTask::new(rt));
@@ -28,11 +27,9 @@ fn an_entry_call_looks_again_after_a_load(rt: HostRuntime) {
 
 #[test]
 fn an_entry_call_gets_a_guard(rt: HostRuntime) {
-    let cache: Cache<u64, u64> = expect_ok!(rt; Cache::new(rt.alloc(), 100));
+    let cache = numbers(&rt, 100);
     let rt = &rt;
-    let GuardResult::Guard(guard) = cache.get_value_or_guard(rt, &1, None) else {
-        panic!(rt; "the key is absent");
-    };
+    let guard = guard_of_one(rt, &cache);
     let gives = |_: &u64, _: &mut u64| EntryAction::<()>::ReplaceWithGuard;
     let mut first = cache.entry_async(rt, &1, gives);
     let mut second = cache.entry_async(rt, &1, gives);

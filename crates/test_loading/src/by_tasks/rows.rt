@@ -1,14 +1,14 @@
 //! What the futures give to one who waits for them by the executor of `futures`.
+use crate::begun::numbers;
 use futures::executor::block_on;
 use futures::future::ready;
 use quick_cache_guard::EntryResult;
 use quick_cache_shard::EntryAction;
-use quick_cache_sync::Cache;
 use test_tools::{expect, expect_eq, expect_ok};
 
 #[test]
 fn a_load_fails_and_another_is_removed(rt: HostRuntime) {
-    let cache: Cache<u64, u64> = expect_ok!(rt; Cache::new(rt.alloc(), 100));
+    let cache = numbers(&rt, 100);
     let rt = &rt;
     let fails: Result<u64, u8> = Err(1);
     let failed = expect_ok!(rt; block_on(rt, cache.get_or_insert_async(rt, &4, ready(fails))));

@@ -1,14 +1,14 @@
 //! What the futures give to one who waits for them by the executor of `tokio`.
+use crate::begun::numbers;
 use futures::future::ready;
 use quick_cache_guard::EntryResult;
 use quick_cache_shard::EntryAction;
-use quick_cache_sync::Cache;
 use test_tools::{expect, expect_eq, expect_ok};
 use tokio::runtime::Runtime;
 
 #[test]
 fn a_load_fails_and_another_is_removed_by_tokio(rt: HostRuntime) {
-    let cache: Cache<u64, u64> = expect_ok!(rt; Cache::new(rt.alloc(), 100));
+    let cache = numbers(&rt, 100);
     let mut runtime = expect_ok!(rt; Runtime::new(&rt));
     let rt = &rt;
     let fails: Result<u64, u8> = Err(1);

@@ -1,23 +1,20 @@
 //! Tasks that wait for a value, and one that loads it.
+use crate::begun::{guard_of_one, numbers, waits};
 use futures::channel::oneshot;
 use futures::task::Poll;
 use futures::test::MockTask;
-use quick_cache_guard::GuardResult;
 use quick_cache_model::Refusal;
-use quick_cache_sync::Cache;
 use test_tools::{expect, expect_eq, expect_ok};
 
 #[test]
 fn dropped_future_hands_the_guard_on(rt: HostRuntime) {
-    let cache: Cache<u64, u64> = expect_ok!(rt; Cache::new(rt.alloc(), 100));
+    let cache = numbers(&rt, 100);
     let rt = &rt;
-    let GuardResult::Guard(guard) = cache.get_value_or_guard(rt, &1, None) else {
-        panic!(rt; "the key is absent");
-    };
+    let guard = guard_of_one(rt, &cache);
     let mut first = cache.get_value_or_guard_async(rt, &1);
     let mut second = cache.get_value_or_guard_async(rt, &1);
     let task = expect_ok!(rt; MockTask::new(rt));
-    expect!(rt; task.poll(&mut first).is_pending() && task.poll(&mut second).is_pending());
+    expect!(rt; waits(&task, &mut first) && waits(&task, &mut second));
     // The guard goes to the second, which came last, and from there to the first.
     drop(guard);
     drop(second);
@@ -31,7 +28,7 @@ fn dropped_future_hands_the_guard_on(rt: HostRuntime) {
 
 #[test]
 fn a_task_loads_what_a_channel_sends(rt: HostRuntime) {
-    let cache: Cache<u64, u64> = expect_ok!(rt; Cache::new(rt.alloc(), 100));
+    let cache = numbers(&rt, 100);
     let rt = &rt;
     let (sender, receiver) = expect_ok!(rt; oneshot::channel(rt.alloc()));
     let mut loads = cache.get_or_insert_async(rt, &4, receiver);

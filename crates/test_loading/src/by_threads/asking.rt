@@ -1,17 +1,16 @@
 //! Rows of calls that load or act on an entry, each with what it is told, which one thread makes.
+use crate::begun::numbers;
 use crate::schedules::running::{Numbers, Running};
 use crate::schedules::steps::{Step, Told};
 use quick_cache_guard::Fetched;
 use quick_cache_model::Refusal;
 use quick_cache_shard::EntryAction;
-use quick_cache_sync::Cache;
 use std::alloc::AllocGlobal;
 use std::process::Abort;
 use std::random::RandomSource;
 use std::sync::Wait;
-use std::test::Fail;
 use std::time::{Clock, Duration};
-use test_tools::{expect, expect_ok};
+use test_tools::expect;
 
 /// What an entry call makes of an item.
 #[derive(Clone, Copy)]
@@ -111,21 +110,21 @@ fn chosen(choice: Choice, value: &mut u64) -> EntryAction<u64> {
 fn make<R: Wait + Clock + RandomSource + AllocGlobal>(
     running: &mut Running<'_, R>,
     call: Call,
-) -> Result<Told, Fail> {
+) -> Told {
     let (rt, cache) = (running.rt, running.cache);
     match call {
         Call::Step(step) => running.step(step),
-        Call::Load(key, value) => Ok(load(rt, cache, key, value)),
-        Call::LoadTold(key, value) => Ok(load_told(rt, cache, key, value)),
-        Call::LoadBoth(key, value) => Ok(load_both(rt, cache, key, value)),
+        Call::Load(key, value) => load(rt, cache, key, value),
+        Call::LoadTold(key, value) => load_told(rt, cache, key, value),
+        Call::LoadBoth(key, value) => load_both(rt, cache, key, value),
         Call::ActAs(key, choice) => {
             let callback = |_: &u64, value: &mut u64| chosen(choice, value);
             let answer = cache.entry(rt, &key, Some(Duration::from_millis(0)), callback);
             running.acted(answer)
         }
-        Call::InvalidateEven => Ok(Told::Count(cache.invalidate_if(rt, |key| *key % 2 == 0))),
-        Call::Hits => Ok(Told::Count(cache.hits(rt) as usize)),
-        Call::Misses => Ok(Told::Count(cache.misses(rt) as usize)),
+        Call::InvalidateEven => Told::Count(cache.invalidate_if(rt, |key| *key % 2 == 0)),
+        Call::Hits => Told::Count(cache.hits(rt) as usize),
+        Call::Misses => Told::Count(cache.misses(rt) as usize),
     }
 }
 
@@ -135,13 +134,11 @@ pub fn answers<R: Wait + Clock + RandomSource + AllocGlobal + Abort>(
     rt: &R,
     items: usize,
     row: &[(Call, Told)],
-) -> Result<(), Fail> {
-    let cache: Numbers = expect_ok!(rt; Cache::new(rt.alloc(), items));
+) {
+    let cache = numbers(rt, items);
     let keys = [0, 1, 2, 3];
     let mut running = Running::new(rt, &cache, &keys);
     for (call, told) in row {
-        let found = make(&mut running, *call)?;
-        expect!(rt; found == *told);
+        expect!(rt; make(&mut running, *call) == *told);
     }
-    Ok(())
 }

@@ -1,10 +1,9 @@
 //! What entry calls answer.
 use crate::by_threads::asking::{Call, Choice, answers};
 use crate::schedules::steps::{Step, Told};
-use std::test::Fail;
 
 #[test]
-fn an_entry_stays_goes_and_is_loaded_anew(rt: HostRuntime) -> Result<(), Fail> {
+fn an_entry_stays_goes_and_is_loaded_anew(rt: HostRuntime) {
     answers(
         &rt,
         100,
@@ -23,5 +22,5 @@ fn an_entry_stays_goes_and_is_loaded_anew(rt: HostRuntime) -> Result<(), Fail> {
             (Call::Step(Step::Get(0)), Told::Nothing),
             (Call::Step(Step::Count), Told::Count(1)),
         ],
-    )
+    );
 }

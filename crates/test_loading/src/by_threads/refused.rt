@@ -40,7 +40,7 @@ fn a_refused_replace_leaves_what_the_callback_wrote(rt: HostRuntime) {
             _ => panic!(rt; "the item was there"),
         }
         let stands = (cache.peek(&rt, &1), cache.len(&rt));
-        assert_eq!(rt; stands, (Ok(Some(11)), 1), "at {blocks} blocks");
+        expect_eq!(rt; (blocks, stands), (blocks, (Ok(Some(11)), 1)));
     }
     expect_ok!(rt; println!(rt; "{refused} requests were refused"));
     expect!(rt; refused > 0 && cache.is_empty(&rt));
@@ -82,7 +82,7 @@ fn an_entry_is_weighed_anew(rt: HostRuntime) {
     expect_eq!(rt; cache.weight(&rt), 10);
     for (more, weight) in [(" world", 16), ("", 5)] {
         expect!(rt; writes(&rt, &cache, 1, more));
-        assert_eq!(rt; cache.weight(&rt), weight, "{more}");
+        expect_eq!(rt; (more, cache.weight(&rt)), (more, weight));
     }
     let goes = |_: &u64, _: &mut String| -> EntryAction<u64> { EntryAction::Remove };
     let gone = cache.entry(&rt, &2, None, goes);

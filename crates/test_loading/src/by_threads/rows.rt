@@ -1,16 +1,14 @@
 //! What loads answer, by one thread and by two.
+use crate::begun::{guard_of_one, numbers};
 use crate::by_threads::asking::{Call, answers};
+use crate::schedules::running::Numbers;
 use crate::schedules::steps::{Step, Told};
 use quick_cache_guard::{EntryResult, GuardResult};
 use quick_cache_shard::EntryAction;
-use quick_cache_sync::Cache;
 use std::sync::Wait;
-use std::test::Fail;
 use std::thread::{join, sleep, yield_now};
 use std::time::{Clock, CpuClock, Duration};
 use test_tools::{expect, expect_eq, expect_ok};
-
-type Numbers = Cache<u64, u64>;
 
 // What a call gets: the value; 100 where it gets the guard, by which it fills in 7; 200 where that
 // is gone; 300 where the time is over; 400 where it is refused.
@@ -31,7 +29,7 @@ fn outcome<R: Wait + Clock>(rt: &R, cache: &Numbers, key: u64, limit: Option<u64
 }
 
 #[test]
-fn what_is_invalidated_is_not_stored_afterwards(rt: HostRuntime) -> Result<(), Fail> {
+fn what_is_invalidated_is_not_stored_afterwards(rt: HostRuntime) {
     answers(
         &rt,
         100,
@@ -52,11 +50,11 @@ fn what_is_invalidated_is_not_stored_afterwards(rt: HostRuntime) -> Result<(), F
             (Call::Step(Step::Get(5)), Told::Value(5)),
             (Call::Step(Step::Get(9)), Told::Value(90)),
         ],
-    )
+    );
 }
 
 #[test]
-fn each_load_of_a_shard_is_invalidated(rt: HostRuntime) -> Result<(), Fail> {
+fn each_load_of_a_shard_is_invalidated(rt: HostRuntime) {
     // All keys of so small a cache have one shard.
     answers(
         &rt,
@@ -71,11 +69,11 @@ fn each_load_of_a_shard_is_invalidated(rt: HostRuntime) -> Result<(), Fail> {
             (Call::Step(Step::Fill(0, 40)), Told::Gone(40)),
             (Call::Step(Step::Count), Told::Count(1)),
         ],
-    )
+    );
 }
 
 #[test]
-fn the_loader_is_called_until_it_gives_a_value(rt: HostRuntime) -> Result<(), Fail> {
+fn the_loader_is_called_until_it_gives_a_value(rt: HostRuntime) {
     answers(
         &rt,
         100,
@@ -87,11 +85,11 @@ fn the_loader_is_called_until_it_gives_a_value(rt: HostRuntime) -> Result<(), Fa
             (Call::Hits, Told::Count(2)),
             (Call::Misses, Told::Count(2)),
         ],
-    )
+    );
 }
 
 #[test]
-fn who_loads_is_told_whether_its_loader_gave_the_value(rt: HostRuntime) -> Result<(), Fail> {
+fn who_loads_is_told_whether_its_loader_gave_the_value(rt: HostRuntime) {
     answers(
         &rt,
         100,
@@ -100,11 +98,11 @@ fn who_loads_is_told_whether_its_loader_gave_the_value(rt: HostRuntime) -> Resul
             (Call::LoadTold(4, 4), Told::Loaded(4)),
             (Call::LoadTold(4, 5), Told::Value(4)),
         ],
-    )
+    );
 }
 
 #[test]
-fn a_loader_uses_its_cache(rt: HostRuntime) -> Result<(), Fail> {
+fn a_loader_uses_its_cache(rt: HostRuntime) {
     // All keys of so small a cache have one shard.
     answers(
         &rt,
@@ -114,11 +112,11 @@ fn a_loader_uses_its_cache(rt: HostRuntime) -> Result<(), Fail> {
             (Call::Step(Step::Get(4)), Told::Value(40)),
             (Call::Step(Step::Get(5)), Told::Value(40)),
         ],
-    )
+    );
 }
 
 #[test]
-fn a_guard_whose_placeholder_left_is_gone(rt: HostRuntime) -> Result<(), Fail> {
+fn a_guard_whose_placeholder_left_is_gone(rt: HostRuntime) {
     // All keys of so small a cache have one shard.
     answers(
         &rt,
@@ -139,7 +137,7 @@ fn a_guard_whose_placeholder_left_is_gone(rt: HostRuntime) -> Result<(), Fail> {
             (Call::Step(Step::Count), Told::Count(2)),
             (Call::Misses, Told::Count(3)),
         ],
-    )
+    );
 }
 
 // Lets others go on until so many hits are counted: each who meets the placeholder counts one.
@@ -154,11 +152,9 @@ fn await_hits<R: Wait>(rt: &R, cache: &Numbers, hits: u64) {
 
 #[test]
 fn one_of_two_threads_loads_what_a_third_gave_up(rt: HostRuntime) {
-    let cache: Numbers = expect_ok!(rt; Cache::new(rt.alloc(), 100));
+    let cache = numbers(&rt, 100);
     let (rt, cache) = (&rt, &cache);
-    let GuardResult::Guard(guard) = cache.get_value_or_guard(rt, &1, None) else {
-        panic!(rt; "the key is absent");
-    };
+    let guard = guard_of_one(rt, cache);
     expect_eq!(rt; cache.misses(rt), 1);
     let text = expect_ok!(rt; format!(in rt.alloc(); "{guard:?}"));
     expect_eq!(rt; text.as_str(), "PlaceholderGuard { .. }");
@@ -186,11 +182,9 @@ fn one_of_two_threads_loads_what_a_third_gave_up(rt: HostRuntime) {
 
 #[test]
 fn a_thread_that_waits_sleeps(rt: HostRuntime) {
-    let cache: Numbers = expect_ok!(rt; Cache::new(rt.alloc(), 100));
+    let cache = numbers(&rt, 100);
     let (rt, cache) = (&rt, &cache);
-    let GuardResult::Guard(guard) = cache.get_value_or_guard(rt, &1, None) else {
-        panic!(rt; "the key is absent");
-    };
+    let guard = guard_of_one(rt, cache);
     let ((value, before, after), filled) = join(
         rt,
         move || {

@@ -1,9 +1,10 @@
 //! Four threads that load two thousand keys, in orders that a generator makes of a seed.
+use crate::begun::numbers;
 use quick_cache_guard::GuardResult;
 use quick_cache_sync::Cache;
 use std::sync::Wait;
 use std::sync::atomic::{AtomicU64, Ordering};
-use std::thread::join;
+use std::thread::map_indices;
 use std::time::Clock;
 use test_tools::{expect_eq, expect_ok};
 
@@ -75,25 +76,19 @@ fn drops_some<R: Wait + Clock>(
     right
 }
 
+// The seed of a thread: eleven times so many.
+fn seed_of(first: u64, thread: usize) -> u64 {
+    first.wrapping_add(thread as u64).wrapping_mul(11)
+}
+
 #[test]
 fn each_key_is_loaded_once(rt: HostRuntime) {
-    let cache: Cache<u64, u64> = expect_ok!(rt; Cache::new(rt.alloc(), 8000));
+    let cache = numbers(&rt, 8000);
     let (rt, cache, loads) = (&rt, &cache, &AtomicU64::new(0));
     expect_ok!(rt; println!(rt; "seeds 11, 22, 33, 44"));
-    let (first, second) = join(
-        rt,
-        || join(
-            rt,
-            || loads_each(rt, cache, loads, 11),
-            || loads_each(rt, cache, loads, 22),
-        ),
-        || join(
-            rt,
-            || loads_each(rt, cache, loads, 33),
-            || loads_each(rt, cache, loads, 44),
-        ),
-    );
-    expect_eq!(rt; (first, second), ((KEYS, KEYS), (KEYS, KEYS)));
+    let calls = &|thread: usize| loads_each(rt, cache, loads, seed_of(1, thread));
+    let right = expect_ok!(rt; map_indices(rt, rt.alloc(), 4, calls));
+    expect_eq!(rt; right.as_slice(), [KEYS; 4].as_slice());
     expect_eq!(rt;
         (loads.load(Ordering::SeqCst), cache.len(rt)),
         (KEYS, KEYS as usize)
@@ -102,23 +97,12 @@ fn each_key_is_loaded_once(rt: HostRuntime) {
 
 #[test]
 fn each_key_is_loaded_once_where_guards_are_dropped(rt: HostRuntime) {
-    let cache: Cache<u64, u64> = expect_ok!(rt; Cache::new(rt.alloc(), 8000));
+    let cache = numbers(&rt, 8000);
     let (rt, cache, loads) = (&rt, &cache, &AtomicU64::new(0));
     expect_ok!(rt; println!(rt; "seeds 55, 66, 77, 88"));
-    let (first, second) = join(
-        rt,
-        || join(
-            rt,
-            || drops_some(rt, cache, loads, 55),
-            || drops_some(rt, cache, loads, 66),
-        ),
-        || join(
-            rt,
-            || drops_some(rt, cache, loads, 77),
-            || drops_some(rt, cache, loads, 88),
-        ),
-    );
-    expect_eq!(rt; (first, second), ((KEYS, KEYS), (KEYS, KEYS)));
+    let calls = &|thread: usize| drops_some(rt, cache, loads, seed_of(5, thread));
+    let right = expect_ok!(rt; map_indices(rt, rt.alloc(), 4, calls));
+    expect_eq!(rt; right.as_slice(), [KEYS; 4].as_slice());
     expect_eq!(rt;
         (loads.load(Ordering::SeqCst), cache.len(rt)),
         (KEYS, KEYS as usize)

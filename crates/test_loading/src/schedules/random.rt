@@ -1,13 +1,14 @@
 //! Random schedules on a running cache, by one thread, beside a plain model.
+use crate::begun::numbers;
 use crate::schedules::generator::next;
 use crate::schedules::later::Later;
 use crate::schedules::plain::Plain;
-use crate::schedules::running::{Numbers, Running, chosen, unless};
+use crate::schedules::running::{Guard, Numbers, Running, chosen, unless};
 use crate::schedules::steps::{Step, Told};
 use futures::task::Poll;
+use quick_cache_guard::EntryResult;
 use quick_cache_model::Refusal;
-use quick_cache_sync::Cache;
-use std::alloc::AllocGlobal;
+use std::alloc::{AllocError, AllocGlobal};
 use std::random::RandomSource;
 use std::sync::Wait;
 use std::test::Fail;
@@ -53,13 +54,14 @@ fn round<R: Wait + Clock + RandomSource + AllocGlobal>(
 ) -> Result<Option<u64>, Fail> {
     let (acts_on, loads) = (seed >> 60 & 3, seed >> 58 & 3);
     let (turns, given) = (seed >> 56 & 3, (seed >> 54 & 3 > 0).then_some(start));
+    let (mut acts, mut loads_by) = (running.unpolled()?, running.unpolled()?);
     let (rt, cache) = (running.rt, running.cache);
     let mut acting = cache.entry_async(rt, running.key(acts_on), |_: &u64, value: &mut u64| {
         chosen(value)
     });
     let mut loading = cache.get_or_insert_async(rt, running.key(loads), Later { turns, given });
-    let (mut acts, mut loads_by) = (running.unpolled()?, running.unpolled()?);
     plain.come_two(acts_on, loads, turns, given);
+    let mut differs = None;
     for turn in start..start.saturating_add(STEPS) {
         seed = next(seed);
         let step = random_step(seed, turn);
@@ -68,38 +70,54 @@ fn round<R: Wait + Clock + RandomSource + AllocGlobal>(
                 let is_asleep = acts.is_asleep();
                 let answer = acts.task.poll(&mut acting);
                 acts.was_pending = answer.is_pending();
-                match answer {
-                    Poll::Pending => Told::Pending,
-                    Poll::Ready(answer) => unless(is_asleep, running.acted(answer)?),
-                }
+                acted(running, is_asleep, answer)
             }
             Step::PollLoads => {
                 let is_asleep = loads_by.is_asleep();
                 let answer = loads_by.task.poll(&mut loading);
                 loads_by.was_pending = answer.is_pending();
-                match answer {
-                    Poll::Pending => Told::Pending,
-                    Poll::Ready(answer) => unless(is_asleep, loaded(answer)),
-                }
+                loaded(is_asleep, answer)
             }
-            _ => running.step(step)?,
+            _ => running.step(step),
         };
-        if told != plain.step(step)? {
-            return Ok(Some(turn));
+        if differ(told, plain.step(step)) {
+            differs = Some(turn);
+            break;
         }
     }
     drop(acting);
     drop(loading);
     plain.drop_two();
-    Ok(None)
+    Ok(differs)
+}
+
+/// What an entry call tells.
+fn acted<'a, R: Wait + Clock + RandomSource + AllocGlobal>(
+    running: &mut Running<'a, R>,
+    is_asleep: bool,
+    answer: Poll<EntryResult<u64, u64, u64, Guard<'a, R>>>,
+) -> Told {
+    match answer {
+        Poll::Pending => Told::Pending,
+        Poll::Ready(answer) => unless(is_asleep, running.acted(answer)),
+    }
 }
 
 /// What a load tells.
-fn loaded(answer: Result<Result<u64, ()>, Refusal>) -> Told {
+fn loaded(is_asleep: bool, answer: Poll<Result<Result<u64, ()>, Refusal>>) -> Told {
     match answer {
-        Ok(Ok(value)) => Told::Value(value),
-        Ok(Err(())) => Told::Failed,
-        Err(_) => Told::Refused,
+        Poll::Pending => Told::Pending,
+        Poll::Ready(Ok(Ok(value))) => unless(is_asleep, Told::Value(value)),
+        Poll::Ready(Ok(Err(()))) => unless(is_asleep, Told::Failed),
+        Poll::Ready(Err(_)) => unless(is_asleep, Told::Refused),
+    }
+}
+
+/// Whether the cache and the model tell something else, or there was no memory for the model.
+pub fn differ(told: Told, wanted: Result<Told, AllocError>) -> bool {
+    match wanted {
+        Ok(wanted) => told != wanted,
+        Err(_) => true,
     }
 }
 
@@ -115,37 +133,55 @@ fn last_step(turn: u64) -> Step {
     }
 }
 
-/// The first step at which they differ, or at which a key is still being loaded in the end.
+/// The first step of all rounds at which they differ.
 fn first_difference<R: Wait + Clock + RandomSource + AllocGlobal>(
-    rt: &R,
-    cache: &Numbers,
+    running: &mut Running<'_, R>,
+    plain: &mut Plain,
     mut seed: u64,
 ) -> Result<Option<u64>, Fail> {
-    let keys = [0, 1, 2, 3];
-    let mut running = Running::new(rt, cache, &keys);
-    let mut plain = Plain::new(rt.alloc());
     for at in 0..ROUNDS {
         seed = next(seed);
-        let found = round(&mut running, &mut plain, seed, at.wrapping_mul(STEPS))?;
+        let found = round(running, plain, seed, at.wrapping_mul(STEPS))?;
         if found.is_some() {
             return Ok(found);
-        }
-    }
-    for turn in 0..208 {
-        let step = last_step(turn);
-        let (told, wanted) = (running.step(step)?, plain.step(step)?);
-        if told != wanted || (turn >= 200 && told == Told::Timeout) {
-            return Ok(Some(turn));
         }
     }
     Ok(None)
 }
 
+/// The first step of the end at which they differ, or a key is still being loaded.
+fn last_difference<R: Wait + Clock + RandomSource + AllocGlobal>(
+    running: &mut Running<'_, R>,
+    plain: &mut Plain,
+) -> Option<u64> {
+    for turn in 0..208 {
+        let step = last_step(turn);
+        let told = running.step(step);
+        if differ(told, plain.step(step)) || (turn >= 200 && told == Told::Timeout) {
+            return Some(turn);
+        }
+    }
+    None
+}
+
+/// The first step at which they differ, of the rounds and of the end.
+fn differences<R: Wait + Clock + RandomSource + AllocGlobal>(
+    rt: &R,
+    cache: &Numbers,
+    seed: u64,
+) -> Result<[Option<u64>; 2], Fail> {
+    let keys = [0, 1, 2, 3];
+    let mut running = Running::new(rt, cache, &keys);
+    let mut plain = Plain::new(rt.alloc());
+    let first = first_difference(&mut running, &mut plain, seed)?;
+    Ok([first, last_difference(&mut running, &mut plain)])
+}
+
 #[test]
 fn random_schedules_are_told_what_the_model_says(rt: HostRuntime) -> Result<(), Fail> {
     expect_ok!(rt; println!(rt; "seed 45"));
-    let cache: Numbers = expect_ok!(rt; Cache::new(rt.alloc(), 8));
-    let found = first_difference(&rt, &cache, 45)?;
-    expect_eq!(rt; found, None);
+    let cache = numbers(&rt, 8);
+    let found = differences(&rt, &cache, 45)?;
+    expect_eq!(rt; found, [None, None]);
     Ok(())
 }

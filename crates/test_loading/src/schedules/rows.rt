@@ -1,14 +1,14 @@
 //! Rows: short schedules on keys that are being loaded, and what each of their steps is told.
+use crate::begun::numbers;
 use crate::schedules::plain::Plain;
+use crate::schedules::random::differ;
 use crate::schedules::running::{Numbers, Running};
 use crate::schedules::steps::{Step, Told};
-use quick_cache_sync::Cache;
 use std::alloc::AllocGlobal;
 use std::random::RandomSource;
 use std::sync::Wait;
-use std::test::Fail;
 use std::time::Clock;
-use test_tools::expect_ok;
+use test_tools::expect_eq;
 
 /// A row: what it shows, and each step with what it is told.
 type Row = (&'static str, &'static [(Step, Told)]);
@@ -124,24 +124,24 @@ fn wrong<R: Wait + Clock + RandomSource + AllocGlobal>(
     rt: &R,
     cache: &Numbers,
     steps: &[(Step, Told)],
-) -> Result<Option<usize>, Fail> {
+) -> Option<usize> {
     let keys = [0, 1, 2, 3];
     let mut running = Running::new(rt, cache, &keys);
     let mut plain = Plain::new(rt.alloc());
+    let mut wrong = None;
     for (at, (step, told)) in steps.iter().enumerate() {
-        if running.step(*step)? != *told || plain.step(*step)? != *told {
-            return Ok(Some(at));
+        if running.step(*step) != *told || differ(*told, plain.step(*step)) {
+            wrong = Some(at);
+            break;
         }
     }
-    Ok(None)
+    wrong
 }
 
 #[test]
-fn rows_are_told_what_they_say(rt: HostRuntime) -> Result<(), Fail> {
+fn rows_are_told_what_they_say(rt: HostRuntime) {
     for (shown, steps) in ROWS {
-        let cache: Numbers = expect_ok!(rt; Cache::new(rt.alloc(), 8));
-        let found = wrong(&rt, &cache, steps)?;
-        assert_eq!(rt; found, None, "{shown}");
+        let cache = numbers(&rt, 8);
+        expect_eq!(rt; (shown, wrong(&rt, &cache, steps)), (shown, None));
     }
-    Ok(())
 }

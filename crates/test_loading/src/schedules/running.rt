@@ -6,13 +6,13 @@ use futures::test::MockTask;
 use quick_cache_guard::tasks::ValueOrGuard;
 use quick_cache_guard::{EntryResult, FillError, GuardResult, PlaceholderGuard};
 use quick_cache_locked::LockedShard;
-use quick_cache_model::{DefaultHashBuilder, UnitWeighter};
+use quick_cache_model::{DefaultHashBuilder, Refusal, UnitWeighter};
 use quick_cache_shard::EntryAction;
 use quick_cache_sync::{Cache, DefaultLifecycle};
 use std::alloc::AllocGlobal;
+use std::io;
 use std::random::RandomSource;
 use std::sync::Wait;
-use std::test::Fail;
 use std::time::{Clock, Duration};
 
 /// A cache of numbers.
@@ -24,13 +24,26 @@ type Shard = LockedShard<u64, u64, UnitWeighter, DefaultHashBuilder, Dropping>;
 
 pub type Guard<'a, R> = PlaceholderGuard<'a, u64, u64, Dropping, Shard, R>;
 
-type Asking<'a, R> = ValueOrGuard<'a, 'a, u64, u64, u64, Dropping, Shard, R>;
+pub type Asking<'a, R> = ValueOrGuard<'a, 'a, u64, u64, u64, Dropping, Shard, R>;
 
 /// A future with its task.
 #[derive(Drop)]
 struct Task<'a, R: Wait> {
     polled: Polled,
     future: Asking<'a, R>,
+}
+
+/// What a future gives that asks for a key.
+type Answer<'a, R> = Result<Result<u64, Guard<'a, R>>, Refusal>;
+
+impl<'a, R: Wait> Task<'a, R> {
+    /// Polls the future, and tells also whether it was asleep.
+    fn poll(&mut self) -> (bool, Poll<Answer<'a, R>>) {
+        let is_asleep = self.polled.is_asleep();
+        let answer = self.polled.task.poll(&mut self.future);
+        self.polled.was_pending = answer.is_pending();
+        (is_asleep, answer)
+    }
 }
 
 /// A cache with the guards and the futures of a schedule.
@@ -61,63 +74,58 @@ impl<'a, R: Wait + Clock + RandomSource + AllocGlobal> Running<'a, R> {
         &keys[(number % 4) as usize]
     }
 
-    /// Makes a step.
-    pub fn step(&mut self, step: Step) -> Result<Told, Fail> {
+    /// Makes a step. One for which there is no memory is told that it was refused.
+    pub fn step(&mut self, step: Step) -> Told {
         match step {
             Step::Ask(key) => self.ask(key),
             Step::Act(key, millis) => self.act(key, millis),
-            Step::Fill(at, value) => Ok(self.fill(at, value)),
-            Step::LetGo(at) => Ok(self.let_go(at)),
+            Step::Fill(at, value) => self.fill(at, value),
+            Step::LetGo(at) => self.let_go(at),
             Step::Begin(key) => self.begin(key),
             Step::Poll(at) => self.poll(at),
-            Step::Cancel(at) => Ok(self.cancel(at)),
+            Step::Cancel(at) => self.cancel(at),
             _ => self.call(step),
         }
     }
 
     /// A call that neither loads nor waits.
-    fn call(&self, step: Step) -> Result<Told, Fail> {
+    fn call(&self, step: Step) -> Told {
         let (rt, cache) = (self.rt, self.cache);
-        let found = match step {
-            Step::Get(key) => cache.get(rt, &key)?,
+        match step {
+            Step::Get(key) => found(cache.get(rt, &key)),
             Step::Remove(key) => match cache.remove(rt, &key) {
-                Some((_, value)) => Some(value),
-                None => None,
+                Some((_, value)) => Told::Value(value),
+                None => Told::Nothing,
             },
-            Step::Replace(key, value) => {
-                let replaced = cache.replace(rt, key, value, false);
-                return Ok(done_if(replaced.is_ok()));
-            }
-            Step::Insert(key, value) => {
-                let inserted = cache.insert(rt, key, value);
-                return Ok(done_if(inserted.is_ok()));
-            }
+            Step::Replace(key, value) => done_if(cache.replace(rt, key, value, false).is_ok()),
+            Step::Insert(key, value) => done_if(cache.insert(rt, key, value).is_ok()),
             Step::Clear => {
                 cache.clear(rt);
-                return Ok(Told::Done);
+                Told::Done
             }
-            _ => return Ok(Told::Count(cache.len(rt))),
-        };
-        match found {
-            Some(value) => Ok(Told::Value(value)),
-            None => Ok(Told::Nothing),
+            _ => Told::Count(cache.len(rt)),
         }
     }
 
-    fn ask(&mut self, key: u64) -> Result<Told, Fail> {
+    /// Holds a guard, and is told this.
+    fn hold(&mut self, guard: Guard<'a, R>, told: Told) -> Told {
+        match self.guards.push(guard) {
+            Ok(()) => told,
+            Err(_) => Told::Refused,
+        }
+    }
+
+    fn ask(&mut self, key: u64) -> Told {
         let limit = Some(Duration::from_millis(0));
         match self.cache.get_value_or_guard(self.rt, &key, limit) {
-            GuardResult::Value(value) => Ok(Told::Value(value)),
-            GuardResult::Guard(guard) => {
-                self.guards.push(guard)?;
-                Ok(Told::Guard)
-            }
-            GuardResult::Timeout => Ok(Told::Timeout),
-            GuardResult::Refused(_) => Ok(Told::Refused),
+            GuardResult::Value(value) => Told::Value(value),
+            GuardResult::Guard(guard) => self.hold(guard, Told::Guard),
+            GuardResult::Timeout => Told::Timeout,
+            GuardResult::Refused(_) => Told::Refused,
         }
     }
 
-    fn act(&mut self, key: u64, millis: u64) -> Result<Told, Fail> {
+    fn act(&mut self, key: u64, millis: u64) -> Told {
         let limit = Some(Duration::from_millis(millis));
         let callback = |_: &u64, value: &mut u64| chosen(value);
         let answer = self.cache.entry(self.rt, &key, limit, callback);
@@ -125,23 +133,14 @@ impl<'a, R: Wait + Clock + RandomSource + AllocGlobal> Running<'a, R> {
     }
 
     /// What an entry call tells. Its guard is held.
-    pub fn acted(
-        &mut self,
-        answer: EntryResult<u64, u64, u64, Guard<'a, R>>,
-    ) -> Result<Told, Fail> {
+    pub fn acted(&mut self, answer: EntryResult<u64, u64, u64, Guard<'a, R>>) -> Told {
         match answer {
-            EntryResult::Retained(value) => Ok(Told::Retained(value)),
-            EntryResult::Removed(_, value) => Ok(Told::Removed(value)),
-            EntryResult::Replaced(guard, value) => {
-                self.guards.push(guard)?;
-                Ok(Told::Replaced(value))
-            }
-            EntryResult::Vacant(guard) => {
-                self.guards.push(guard)?;
-                Ok(Told::Guard)
-            }
-            EntryResult::Timeout => Ok(Told::Timeout),
-            EntryResult::Refused(_) => Ok(Told::Refused),
+            EntryResult::Retained(value) => Told::Retained(value),
+            EntryResult::Removed(_, value) => Told::Removed(value),
+            EntryResult::Replaced(guard, value) => self.hold(guard, Told::Replaced(value)),
+            EntryResult::Vacant(guard) => self.hold(guard, Told::Guard),
+            EntryResult::Timeout => Told::Timeout,
+            EntryResult::Refused(_) => Told::Refused,
         }
     }
 
@@ -165,18 +164,27 @@ impl<'a, R: Wait + Clock + RandomSource + AllocGlobal> Running<'a, R> {
     }
 
     /// A future that has not been polled, where there are not too many.
-    fn begin(&mut self, key: u64) -> Result<Told, Fail> {
+    fn begin(&mut self, key: u64) -> Told {
         if self.tasks.len() >= 8 {
-            return Ok(Told::Nothing);
+            return Told::Nothing;
         }
+        let Ok(polled) = self.unpolled() else {
+            return Told::Refused;
+        };
         let future = self.cache.get_value_or_guard_async(self.rt, self.key(key));
-        let polled = self.unpolled()?;
-        self.tasks.push(Task { polled, future })?;
-        Ok(Told::Done)
+        self.wait(Task { polled, future }, Told::Done)
+    }
+
+    /// Keeps a task, and is told this.
+    fn wait(&mut self, task: Task<'a, R>, told: Told) -> Told {
+        match self.tasks.push(task) {
+            Ok(()) => told,
+            Err(_) => Told::Refused,
+        }
     }
 
     /// A task whose future has not been polled.
-    pub fn unpolled(&self) -> Result<Polled, Fail> {
+    pub fn unpolled(&self) -> io::Result<Polled> {
         Ok(Polled {
             task: MockTask::new(self.rt)?,
             was_pending: false,
@@ -184,29 +192,25 @@ impl<'a, R: Wait + Clock + RandomSource + AllocGlobal> Running<'a, R> {
     }
 
     /// Polls a future. One that waited and has something to say was woken.
-    fn poll(&mut self, at: usize) -> Result<Told, Fail> {
+    fn poll(&mut self, at: usize) -> Told {
         if at >= self.tasks.len() {
-            return Ok(Told::Nothing);
+            return Told::Nothing;
         }
-        let Task {
-            mut polled,
-            mut future,
-        } = self.tasks.swap_remove(at);
-        let is_asleep = polled.is_asleep();
-        let told = match polled.task.poll(&mut future) {
-            Poll::Ready(Ok(Ok(value))) => Told::Value(value),
-            Poll::Ready(Ok(Err(guard))) => {
-                self.guards.push(guard)?;
-                Told::Guard
-            }
-            Poll::Ready(Err(_)) => Told::Refused,
-            Poll::Pending => {
-                polled.was_pending = true;
-                self.tasks.push(Task { polled, future })?;
-                return Ok(Told::Pending);
-            }
-        };
-        Ok(unless(is_asleep, told))
+        let mut task = self.tasks.swap_remove(at);
+        let (is_asleep, answer) = task.poll();
+        match answer {
+            Poll::Ready(answer) => unless(is_asleep, self.came(answer)),
+            Poll::Pending => self.wait(task, Told::Pending),
+        }
+    }
+
+    /// What came to a future. Its guard is held.
+    fn came(&mut self, answer: Answer<'a, R>) -> Told {
+        match answer {
+            Ok(Ok(value)) => Told::Value(value),
+            Ok(Err(guard)) => self.hold(guard, Told::Guard),
+            Err(_) => Told::Refused,
+        }
     }
 
     fn cancel(&mut self, at: usize) -> Told {
@@ -221,6 +225,15 @@ impl<'a, R: Wait + Clock + RandomSource + AllocGlobal> Running<'a, R> {
 /// What was told, unless it came to a task that nobody woke.
 pub fn unless(is_asleep: bool, told: Told) -> Told {
     if is_asleep { Told::Unwoken } else { told }
+}
+
+/// What a look-up found.
+fn found(answer: Result<Option<u64>, Refusal>) -> Told {
+    match answer {
+        Ok(Some(value)) => Told::Value(value),
+        Ok(None) => Told::Nothing,
+        Err(_) => Told::Refused,
+    }
 }
 
 fn done_if(is_done: bool) -> Told {
