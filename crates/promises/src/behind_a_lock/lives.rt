@@ -1,9 +1,12 @@
 //! What those rely on who ask a loader with its cache, where each answer has a life of its own.
-ghost use Rattle.std.specs.Prelude.{◌≡◌, ◌⊎◌, ◌+◌, ◌<◌, ◌≤◌, IfErr, IfOk, IfSome};
-ghost use Rattle.read_through.specs.Loads.{LoadsFrom, LoadsOkFrom};
+ghost use Rattle.std.specs.Prelude.{◌≡◌, ◌⊎◌, ◌+◌, ◌<◌, ◌≤◌, Err, IfErr, IfOk, IfSome, IsTrue};
+ghost use Rattle.quick_cache_guard.specs.Answers.{IsLoadRefusal};
+ghost use Rattle.quick_cache_model.specs.Hashing.{StandsForGiven};
+ghost use Rattle.read_through.specs.Loads.{LoadsFrom, LoadsOkFrom, LoadsSome};
 
 use futures::Future;
 use futures::task::{Context, Poll};
+use quick_cache_model::ToKey;
 use read_through::{ByAnswer, Given, Loaded, ReadThrough, Refusal, Source, WithLife};
 use std::alloc::Global;
 use std::sync::Wait;
