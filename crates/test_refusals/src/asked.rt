@@ -7,19 +7,19 @@ use quick_cache_sync as sync;
 use quick_cache_unsync as unsync;
 use std::alloc::Global;
 use std::cell::Cell;
-use std::process::Abort;
 use std::sync::atomic::{AtomicU64, Ordering};
+use std::test::Fail;
 use test_tools::{expect_eq, expect_ok};
 
 /// How often pins are asked where a fifth key comes to four, of which so many have the mark 2: three
 /// are hot and the fourth is cold. All are pinned or none, as the first number is odd or even.
-fn asked_by_a_fifth(rt: &impl Abort, alloc: Global, pinned: u64, marked: u64) -> u64 {
+fn asked_by_a_fifth(alloc: Global, pinned: u64, marked: u64) -> Result<u64, Fail> {
     let asked = Cell::new(pinned);
     let pins = Counting {
         asked: &asked,
         adds: 2,
     };
-    let mut cache = pinning(rt, alloc, 4, 4, DEFAULT_HOT_ALLOCATION, UnitWeighter, pins);
+    let mut cache = pinning(alloc, 4, 4, DEFAULT_HOT_ALLOCATION, UnitWeighter, pins)?;
     for key in 0..4 {
         put(&mut cache, key, key);
     }
@@ -29,11 +29,11 @@ fn asked_by_a_fifth(rt: &impl Abort, alloc: Global, pinned: u64, marked: u64) ->
     }
     let before = asked.get();
     put(&mut cache, 4, 4);
-    asked.get().wrapping_sub(before) / 2
+    Ok(asked.get().wrapping_sub(before) / 2)
 }
 
 #[test]
-fn each_visit_asks_once_whether_the_item_is_pinned(rt: HostRuntime) {
+fn each_visit_asks_once_whether_the_item_is_pinned(rt: HostRuntime) -> Result<(), Fail> {
     for (pinned, marked, wanted) in [
         // The cold item leaves.
         (0, 0, 1),
@@ -45,9 +45,10 @@ fn each_visit_asks_once_whether_the_item_is_pinned(rt: HostRuntime) {
         // It is promoted; four hot ones are visited for the target, and again for the capacity.
         (1, 4, 8),
     ] {
-        let asked = asked_by_a_fifth(&rt, rt.alloc(), pinned, marked);
-        expect_eq!(rt; (pinned, marked, asked), (pinned, marked, wanted));
+        let asked = asked_by_a_fifth(rt.alloc(), pinned, marked)?;
+        assert_eq!(rt; asked, wanted, "at {pinned} and {marked}");
     }
+    Ok(())
 }
 
 #[test]

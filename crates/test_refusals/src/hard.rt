@@ -8,8 +8,8 @@ use quick_cache_options::options::DEFAULT_HOT_ALLOCATION;
 use quick_cache_unsync::Cache;
 use std::alloc::Global;
 use std::cell::Cell;
-use std::process::Abort;
-use test_tools::{expect_eq, expect_ok};
+use std::test::Fail;
+use test_tools::{expect, expect_eq};
 
 /// Weighs a number as itself.
 #[derive(Drop)]
@@ -87,22 +87,20 @@ pub(crate) type Pinning<'a, We> = Cache<u64, u64, We, DefaultHashBuilder, Counti
 
 /// A cache in which this share of the weight may be hot.
 pub(crate) fn pinning<'a, We: Weighter<u64, u64> + Drop>(
-    rt: &impl Abort,
     alloc: Global,
     items: usize,
     weight: u64,
     hot: u32,
     weigher: We,
     pins: Counting<'a>,
-) -> Pinning<'a, We> {
+) -> Result<Pinning<'a, We>, Fail> {
     let mut options = OptionsBuilder::new();
     options
         .estimated_items_capacity(items)
         .weight_capacity(weight)
         .hot_allocation(hot);
     let builder = DefaultHashBuilder::new();
-    let options = expect_ok!(rt; options.build());
-    expect_ok!(rt; Cache::with_options(alloc, options, weigher, builder, pins))
+    Ok(Cache::with_options(alloc, options.build()?, weigher, builder, pins)?)
 }
 
 /// Inserts a pair, and tells how many calls of hooks that made.
@@ -122,65 +120,56 @@ fn sizes<We>(cache: &Pinning<'_, We>) -> (usize, u64) {
 }
 
 #[test]
-fn two_pinned_items_of_the_greatest_weight_stay(rt: HostRuntime) {
+fn two_pinned_items_of_the_greatest_weight_stay(rt: HostRuntime) -> Result<(), Fail> {
     let odd = Cell::new(1);
     let pins = Counting {
         asked: &odd,
         adds: 0,
     };
-    let mut cache = pinning(&rt, rt.alloc(), 2, u64::MAX, 1000000, AsItself, pins);
+    let mut cache = pinning(rt.alloc(), 2, u64::MAX, 1000000, AsItself, pins)?;
+    let mut is_right = true;
     for (key, items) in [(1, 1), (2, 2)] {
         let events = put(&mut cache, key, u64::MAX);
-        expect_eq!(rt; (events, sizes(&cache)), (Some(0), (items, u64::MAX)));
+        is_right = is_right && events == Some(0) && sizes(&cache) == (items, u64::MAX);
     }
     for (key, left) in [(1, (1, u64::MAX)), (2, (0, 0))] {
         cache.remove(&key);
-        expect_eq!(rt; (key, sizes(&cache)), (key, left));
+        is_right = is_right && sizes(&cache) == left;
     }
+    expect!(rt; is_right);
+    Ok(())
 }
 
 #[test]
-fn each_call_returns_where_pins_come_and_go(rt: HostRuntime) {
+fn each_call_returns_where_pins_come_and_go(rt: HostRuntime) -> Result<(), Fail> {
     let turns = Cell::new(0);
     let pins = Counting {
         asked: &turns,
         adds: 1,
     };
-    let mut cache = pinning(
-        &rt,
-        rt.alloc(),
-        4,
-        4,
-        DEFAULT_HOT_ALLOCATION,
-        UnitWeighter,
-        pins,
-    );
+    let mut cache = pinning(rt.alloc(), 4, 4, DEFAULT_HOT_ALLOCATION, UnitWeighter, pins)?;
     for key in 0..200 {
         let is_in = put(&mut cache, key, key).is_some();
-        // Where it is found, its value is its own.
-        let value = cache.get(&key).copied().unwrap_or(key);
+        let is_its_own = match cache.get(&key) {
+            Some(value) => *value == key,
+            None => true,
+        };
         let (items, weight) = sizes(&cache);
-        expect_eq!(rt; (key, is_in, value, weight), (key, true, key, items as u64));
+        assert!(rt; is_in && is_its_own && weight == items as u64, "at {key}");
     }
+    Ok(())
 }
 
 #[test]
-fn what_weighs_nothing_stays_where_there_is_no_capacity(rt: HostRuntime) {
+fn what_weighs_nothing_stays_where_there_is_no_capacity(rt: HostRuntime) -> Result<(), Fail> {
     let even = Cell::new(0);
     let pins = Counting {
         asked: &even,
         adds: 0,
     };
-    let mut cache = pinning(
-        &rt,
-        rt.alloc(),
-        0,
-        0,
-        DEFAULT_HOT_ALLOCATION,
-        AsNothing,
-        pins,
-    );
+    let mut cache = pinning(rt.alloc(), 0, 0, DEFAULT_HOT_ALLOCATION, AsNothing, pins)?;
     let events = put(&mut cache, 1, 10);
     let found = cache.get(&1).copied();
     expect_eq!(rt; (events, found, sizes(&cache)), (Some(0), Some(10), (1, 0)));
+    Ok(())
 }

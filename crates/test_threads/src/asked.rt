@@ -1,19 +1,14 @@
 //! Rows of calls of a cache that threads share, each with what it is to answer, which one thread makes.
 use quick_cache::sync::{Cache, DefaultLifecycle, TryError};
 use quick_cache::{Refusal, Weighter};
-use std::alloc::{AllocGlobal, Allocator};
+use std::alloc::Allocator;
 use std::hash::BuildHasher;
 use std::process::Abort;
 use std::sync::Wait;
-use test_tools::{expect_eq, expect_ok};
+use test_tools::expect_eq;
 
 /// A cache of numbers whose lifecycle drops what leaves.
 pub type Shared<We, B, A> = Cache<u64, u64, We, B, DefaultLifecycle<u64, u64>, A>;
-
-/// A cache for so many numbers, which drops what leaves.
-pub fn numbers<R: AllocGlobal + Abort>(rt: &R, items: usize) -> Cache<u64, u64> {
-    expect_ok!(rt; Cache::new(rt.alloc(), items))
-}
 
 /// A call.
 #[derive(Debug, Clone, Copy)]

@@ -1,6 +1,7 @@
 //! The calls of a cache that threads share, each once and by one thread.
-use crate::asked::{Ask, Said, answers, numbers};
-use test_tools::{expect, expect_eq};
+use crate::asked::{Ask, Said, answers};
+use quick_cache::sync::Cache;
+use test_tools::{expect, expect_eq, expect_ok};
 
 /// Three pairs come in.
 const THREE_PAIRS: [(Ask, Said); 3] = [
@@ -11,7 +12,7 @@ const THREE_PAIRS: [(Ask, Said); 3] = [
 
 #[test]
 fn shared_calls_act(rt: HostRuntime) {
-    let cache = numbers(&rt, 100);
+    let cache: Cache<u64, u64> = expect_ok!(rt; Cache::new(rt.alloc(), 100));
     let mut empty = [cache.is_empty(&rt), false, false];
     answers(&rt, &cache, &THREE_PAIRS);
     empty[1] = cache.is_empty(&rt);
@@ -59,7 +60,7 @@ fn shared_calls_act(rt: HostRuntime) {
 
 #[test]
 fn reads_are_counted_and_looks_are_not(rt: HostRuntime) {
-    let cache = numbers(&rt, 100);
+    let cache: Cache<u64, u64> = expect_ok!(rt; Cache::new(rt.alloc(), 100));
     answers(&rt, &cache, &THREE_PAIRS);
     answers(
         &rt,
@@ -88,7 +89,7 @@ fn reads_are_counted_and_looks_are_not(rt: HostRuntime) {
 
 #[test]
 fn memory_is_reserved_in_each_shard(rt: HostRuntime) {
-    let cache = numbers(&rt, 100);
+    let cache: Cache<u64, u64> = expect_ok!(rt; Cache::new(rt.alloc(), 100));
     expect_eq!(rt; cache.memory_used(&rt).entries, 0);
     expect_eq!(rt; cache.reserve(&rt, 100), Ok(()));
     expect!(rt; cache.memory_used(&rt).total() > 0);

@@ -1,5 +1,4 @@
 //! The hottest items of a cache that threads share.
-use crate::asked::numbers;
 use crate::shards::divided;
 use quick_cache::Queue;
 use quick_cache::sync::{Cache, Heated};
@@ -32,7 +31,7 @@ fn shown<R: Wait + Abort>(
 
 #[test]
 fn what_was_written_again_is_hotter(rt: HostRuntime) {
-    let cache = numbers(&rt, 100);
+    let cache: Cache<u64, u64> = expect_ok!(rt; Cache::new(rt.alloc(), 100));
     // Each write over an item is a mark more, up to 2.
     put_all(&rt, &cache, &[1, 2, 3, 2, 3, 2, 2]);
     // A look-up leaves its touch at the item, which is no mark yet.

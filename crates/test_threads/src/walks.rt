@@ -1,5 +1,4 @@
 //! Walks over the shared cache, and drains of it.
-use crate::asked::numbers;
 use crate::shards::divided;
 use quick_cache::sync::Cache;
 use quick_cache::{DefaultHashBuilder, UnitWeighter};
@@ -51,7 +50,7 @@ fn begin_with_numbers(keys: &Vec<u64>, count: usize) -> bool {
 
 #[test]
 fn walks_print_their_names(rt: HostRuntime) {
-    let cache = numbers(&rt, 8);
+    let cache: Cache<u64, u64> = expect_ok!(rt; Cache::new(rt.alloc(), 8));
     let text = expect_ok!(rt;
         format!(in rt.alloc(); "{:?}, {:?}", cache.iter(&rt), cache.drain(&rt)));
     expect_eq!(rt; text.as_str(), "Iter { .. }, Drain { .. }");
@@ -130,7 +129,7 @@ fn comes_and_goes<R: Wait>(rt: &R, cache: &Cache<u64, u64>, is_over: &AtomicBool
 
 #[test]
 fn a_walk_beside_a_thread_shows_what_stays_once(rt: HostRuntime) {
-    let cache = numbers(&rt, 4000);
+    let cache: Cache<u64, u64> = expect_ok!(rt; Cache::new(rt.alloc(), 4000));
     for number in 0..500 {
         expect!(rt; cache.insert(&rt, number, number).is_ok());
     }
@@ -160,7 +159,7 @@ fn others_than(key: u64) -> (u64, u64) {
 
 #[test]
 fn a_walk_goes_on_beside_other_calls(rt: HostRuntime) {
-    let cache = numbers(&rt, 8);
+    let cache: Cache<u64, u64> = expect_ok!(rt; Cache::new(rt.alloc(), 8));
     for number in 1..4u64 {
         expect!(rt; cache.insert(&rt, number, number).is_ok());
     }

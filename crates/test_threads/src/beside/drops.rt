@@ -58,8 +58,7 @@ fn one_thread_drops_what_leaves_once(rt: HostRuntime) {
     let mut cache: OneThread<'_> =
         expect_ok!(rt; unsync::Cache::with_weighter(rt.alloc(), 10, 10, ByValue));
     for (key, weight, dropped) in INSERTS {
-        let found = put(&mut cache, &drops, key, weight);
-        expect_eq!(rt; (key, found), (key, dropped));
+        assert_eq!(rt; put(&mut cache, &drops, key, weight), dropped, "at {key}");
     }
     drop(cache.remove(&4));
     let removed = drops.get();
@@ -99,8 +98,11 @@ fn a_shared_cache_drops_what_leaves_once(rt: HostRuntime) {
     let drops = Cell::new(0);
     let cache: Shared<'_> = expect_ok!(rt; sync::Cache::with_weighter(rt.alloc(), 10, 10, ByValue));
     for (key, weight, dropped) in INSERTS {
-        let found = put_shared(&rt, &cache, &drops, key, weight);
-        expect_eq!(rt; (key, found), (key, dropped));
+        assert_eq!(rt;
+            put_shared(&rt, &cache, &drops, key, weight),
+            dropped,
+            "at {key}"
+        );
     }
     drop(cache.remove(&rt, &4));
     let removed = drops.get();

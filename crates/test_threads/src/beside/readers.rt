@@ -1,7 +1,7 @@
 //! Readers of one shard: they look keys up side by side, and what they count is shown and taken in.
 ghost use Rattle.std.specs.Prelude.{⊤};
 
-use crate::asked::{Ask, Said, answers, numbers};
+use crate::asked::{Ask, Said, answers};
 use quick_cache::sync::Cache;
 use std::alloc::AllocError;
 use std::sync::atomic::AtomicU64;
@@ -69,8 +69,8 @@ const TEN_PAIRS: [(Ask, Said); 10] = [
 
 #[test]
 fn what_readers_count_is_shown_and_taken_in(rt: HostRuntime) {
-    let cache = numbers(&rt, 10);
-    let unread = numbers(&rt, 10);
+    let cache: Cache<u64, u64> = expect_ok!(rt; Cache::new(rt.alloc(), 10));
+    let unread: Cache<u64, u64> = expect_ok!(rt; Cache::new(rt.alloc(), 10));
     answers(&rt, &unread, &TEN_PAIRS);
     let eleventh = [
         (Ask::Insert(11, 11), Said::Done),

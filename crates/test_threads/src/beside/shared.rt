@@ -1,5 +1,5 @@
 //! What one thread writes another reads, and what leaves with a call.
-use crate::asked::{Ask, Said, answers, numbers};
+use crate::asked::{Ask, Said, answers};
 use quick_cache::sync::{Cache, DefaultLifecycle};
 use quick_cache::{DefaultHashBuilder, UnitWeighter, Weighter, unsync};
 use std::thread::join;
@@ -7,7 +7,7 @@ use test_tools::{expect, expect_eq, expect_ok};
 
 #[test]
 fn one_thread_reads_what_another_wrote(rt: HostRuntime) {
-    let cache = numbers(&rt, 100);
+    let cache: Cache<u64, u64> = expect_ok!(rt; Cache::new(rt.alloc(), 100));
     let shared = &cache;
     let (written, _) = join(&rt, || shared.insert(&rt, 1, 10), || ());
     expect_eq!(rt; written, Ok(()));
@@ -18,7 +18,7 @@ fn one_thread_reads_what_another_wrote(rt: HostRuntime) {
 
 #[test]
 fn two_threads_write_side_by_side(rt: HostRuntime) {
-    let cache = numbers(&rt, 1000);
+    let cache: Cache<u64, u64> = expect_ok!(rt; Cache::new(rt.alloc(), 1000));
     let shared = &cache;
     let (first, second) = join(
         &rt,
@@ -71,7 +71,7 @@ fn the_first_two_pairs_that_leave_are_kept(rt: HostRuntime) {
 
 #[test]
 fn a_new_cache_holds_as_much_as_it_is_made_for(rt: HostRuntime) {
-    let cache = numbers(&rt, 2);
+    let cache: Cache<u64, u64> = expect_ok!(rt; Cache::new(rt.alloc(), 2));
     let weighted: Cache<u64, u64, ByValue> =
         expect_ok!(rt; Cache::with_weighter(rt.alloc(), 2, 9, ByValue));
     let whole: Cache<u64, u64> = expect_ok!(rt; Cache::with(

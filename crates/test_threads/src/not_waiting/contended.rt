@@ -1,10 +1,10 @@
 //! The calls that do not wait, while another call has a lock to write. A predicate of `remove_if`
 //! runs under that lock, and tries them on the same cache: an item that leaves says that each of
 //! them gave the answer that is wanted.
-use crate::asked::{Ask, Said, answers, numbers};
 use crate::shards::divided;
 use quick_cache::sync::{Cache, LockContention, TryError};
-use test_tools::expect_eq;
+use std::test::Fail;
+use test_tools::{expect_eq, expect_ok};
 
 /// Whether each call that does not wait answers contention under this key, and gives back the pair
 /// and the request state as they were.
@@ -23,42 +23,28 @@ fn each_is_contended(cache: &Cache<u64, u64>, key: u64) -> bool {
 
 #[test]
 fn each_call_answers_contention_while_every_lock_is_held(rt: HostRuntime) {
-    let cache = numbers(&rt, 100);
+    let cache: Cache<u64, u64> = expect_ok!(rt; Cache::new(rt.alloc(), 100));
     let (rt, shared) = (&rt, &cache);
     let Some(other) = (5..100u64).find(|key| shared.shard_index(key) != shared.shard_index(&4))
     else {
         panic!(rt; "each shard has keys");
     };
-    answers(
-        rt,
-        shared,
-        &[
-            (Ask::Insert(1, 10), Said::Done),
-            (Ask::Insert(4, 10), Said::Done),
-            (Ask::Insert(other, 10), Said::Done),
-        ],
-    );
+    for key in [1, 4, other] {
+        expect_eq!(rt; cache.insert(rt, key, 10), Ok(()));
+    }
     // There are two shards: one predicate runs under the lock of each.
     let under_both = |_: &u64| (1..4u64).all(|key| each_is_contended(shared, key));
     let under_one = |_: &u64| shared.remove_if(rt, &other, under_both).is_some();
     expect_eq!(rt; cache.num_shards(), 2);
     expect_eq!(rt; cache.remove_if(rt, &4, under_one), Some((4, 10)));
     // Nothing else changed, and the locks are free again.
-    answers(
-        rt,
-        shared,
-        &[
-            (Ask::TryContains(3), Said::Is(false)),
-            (Ask::TryPeek(1), Said::Value(10)),
-            (Ask::Len, Said::Count(1)),
-            (Ask::Hits, Said::Count(0)),
-            (Ask::Misses, Said::Count(0)),
-        ],
-    );
+    expect_eq!(rt; cache.try_contains_key(&3), Ok(false));
+    expect_eq!(rt; cache.try_peek(&1), Ok(Some(10)));
+    expect_eq!(rt; (cache.len(rt), cache.hits(rt), cache.misses(rt)), (1, 0, 0));
 }
 
 #[test]
-fn a_lock_is_of_its_shard_alone(rt: HostRuntime) {
+fn a_lock_is_of_its_shard_alone(rt: HostRuntime) -> Result<(), Fail> {
     let Some(cache) = divided(rt.alloc(), 2, 100) else {
         panic!(rt; "there is memory");
     };
@@ -77,4 +63,5 @@ fn a_lock_is_of_its_shard_alone(rt: HostRuntime) {
             && shared.try_remove(&other) == Ok(Some((other, 20)))
     };
     expect_eq!(rt; cache.remove_if(&rt, &1, acts_on_the_other), Some((1, 10)));
+    Ok(())
 }

@@ -1,11 +1,11 @@
 //! The calls that do not wait, where no other call has a lock.
-use crate::asked::{Ask, Said, answers, numbers};
-use quick_cache::sync::LockContention;
+use crate::asked::{Ask, Said, answers};
+use quick_cache::sync::{Cache, LockContention};
 use test_tools::{expect_eq, expect_ok};
 
 #[test]
 fn try_calls_succeed_on_an_idle_cache(rt: HostRuntime) {
-    let cache = numbers(&rt, 100);
+    let cache: Cache<u64, u64> = expect_ok!(rt; Cache::new(rt.alloc(), 100));
     answers(
         &rt,
         &cache,
@@ -28,7 +28,7 @@ fn try_calls_succeed_on_an_idle_cache(rt: HostRuntime) {
 
 #[test]
 fn a_tried_get_is_a_read_and_a_tried_peek_is_none(rt: HostRuntime) {
-    let cache = numbers(&rt, 100);
+    let cache: Cache<u64, u64> = expect_ok!(rt; Cache::new(rt.alloc(), 100));
     let mut gone = [None, None];
     let inserted = [10, 11].map(|value| cache.try_insert_with_lifecycle(1, value, &mut gone));
     expect_eq!(rt; (inserted, gone), ([Ok(()), Ok(())], [Some((1, 10)), None]));

@@ -143,25 +143,14 @@ fn shared_and_single_thread_agree(rt: HostRuntime) {
         } else {
             call_tried(&rt, &shared, call, &mut reported_shared)
         };
-        expect_eq!(rt;
-            (answer.is_some(), answer, reported_shared),
-            (true, wanted, reported_alone)
-        );
+        expect!(rt; wanted.is_some());
+        expect_eq!(rt; answer, wanted);
+        expect_eq!(rt; reported_shared, reported_alone);
         left = left.saturating_add(reported_alone.count() as u64);
     }
     expect!(rt; left > 0);
-    expect_eq!(rt;
-        [
-            shared.len(&rt) as u64,
-            shared.weight(&rt),
-            shared.hits(&rt),
-            shared.misses(&rt)
-        ],
-        [
-            alone.len() as u64,
-            alone.weight(),
-            alone.hits(),
-            alone.misses()
-        ]
-    );
+    expect_eq!(rt; shared.len(&rt), alone.len());
+    expect_eq!(rt; shared.weight(&rt), alone.weight());
+    expect_eq!(rt; shared.hits(&rt), alone.hits());
+    expect_eq!(rt; shared.misses(&rt), alone.misses());
 }

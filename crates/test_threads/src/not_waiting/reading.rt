@@ -4,12 +4,11 @@ ghost use Rattle.std.specs.Prelude.{◌==◌};
 ghost use Rattle.std.specs.Cmp.Rules.{comparing, hashing};
 ghost use Rattle.std.proofs.Common.{rules};
 
-use crate::asked::numbers;
 use quick_cache::Equivalent;
 use quick_cache::sync::{Cache, LockContention, TryError};
 use std::hash::Hash;
 use std::sync::atomic::{AtomicU64, Ordering};
-use test_tools::{expect, expect_eq};
+use test_tools::{expect, expect_eq, expect_ok};
 
 /// Stands for a number. Where it is compared, it counts whether the calls that read answer and those
 /// that write are contended.
@@ -51,7 +50,7 @@ fn readers_share(cache: &Cache<u64, u64>) -> bool {
 
 #[test]
 fn a_lock_to_read_is_shared_by_calls_that_read(rt: HostRuntime) {
-    let cache = numbers(&rt, 10);
+    let cache: Cache<u64, u64> = expect_ok!(rt; Cache::new(rt.alloc(), 10));
     expect_eq!(rt; cache.insert(&rt, 1, 10), Ok(()));
     let right = AtomicU64::new(0);
     let query = Trying {

@@ -9,7 +9,7 @@ use std::marker::Brand;
 use std::sync::Wait;
 use std::sync::ledger::{Blank, Ledger};
 use std::test::Fail;
-use test_tools::{Rationed, expect_eq, expect_ok};
+use test_tools::{Rationed, expect_ok};
 
 /// A text whose clones can be refused.
 type Text<'a> = String<&'a Rationed<Global>>;
@@ -180,12 +180,11 @@ fn a_refused_call_changes_neither_cache_nor_list(rt: HostRuntime) -> Result<(), 
             let blank = Blank::new(PARTS);
             let (made, list) = with_blocks::<Brand, _>(&rt, rt.alloc(), blank, kind, blocks)?;
             let wanted: &[u64] = if made { &all } else { &unmade[..5] };
-            let is_wanted = list.as_slice() == wanted;
-            expect_eq!(rt; (kind, blocks, is_wanted), (kind, blocks, true));
+            assert!(rt; list.as_slice() == wanted, "{kind:?} with {blocks} blocks");
             refused = refused.saturating_add(u64::from(!made));
         }
         expect_ok!(rt; println!(rt; "{kind:?} was refused {refused} times"));
-        expect_eq!(rt; (kind, refused > 1 && refused < 20), (kind, true));
+        assert!(rt; refused > 1 && refused < 20, "{kind:?}");
     }
     Ok(())
 }
