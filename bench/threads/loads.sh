@@ -1,5 +1,6 @@
 #!/bin/sh
-# Times hits by the calls that load, and by a loader with its cache, beside `get`, by one thread. Usage: bench/threads/loads.sh [ROUNDS]
+# Times hits by the calls that load, by a loader with its cache, and by a cache whose entries end, beside
+# `get`, by one thread. Usage: bench/threads/loads.sh [ROUNDS]
 # ROUNDS is 15 if left out.
 set -e
 rounds=${1:-15}
@@ -27,4 +28,4 @@ table() {
 echo "| Hits by | Least | Median | Beside \`get\` |"
 echo "|---|---|---|---|"
 table 'get,get_value_or_guard,get_or_insert_with' loads
-table 'get,ReadThrough::get' read_through
+table 'get,ReadThrough::get,SharedExpiring::get' read_through

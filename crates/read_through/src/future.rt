@@ -16,6 +16,7 @@ use futures::task::{Context, Poll};
 use quick_cache_expiring::Loaded;
 use quick_cache_guard::tasks::ValueOrGuard;
 use quick_cache_guard::{EntryResult, PlaceholderGuard, Stage};
+use quick_cache_listeners::{Ignore, ListenerWhy};
 use quick_cache_model::{DefaultHashBuilder, Refusal, Weighter};
 use std::alloc::Allocator;
 use std::hash::{BuildHasher, Hash};
@@ -43,12 +44,15 @@ pub struct GetFuture<
     We: Weighter<K, V>,
     R: Wait,
     B: BuildHasher = DefaultHashBuilder,
+    N: ListenerWhy<K, Loaded<V>> = Ignore,
 > {
     rt: &'a R,
-    reading: &'a ReadThrough<K, V, F, S, A, Li, We, B>,
+    reading: &'a ReadThrough<K, V, F, S, A, Li, We, B, N>,
     key: &'a K,
     now: u64,
-    stage: Stage<ValueOrGuard<'a, 'a, K, K, Loaded<V>, Fresh<S>, ShardOf<K, V, S, A, We, B>, R, A>>,
+    stage: Stage<
+        ValueOrGuard<'a, 'a, K, K, Loaded<V>, Fresh<S, N>, ShardOf<K, V, S, A, We, B, N>, R, A>,
+    >,
 }
 
 impl<
@@ -62,7 +66,8 @@ impl<
     We: Weighter<K, V>,
     R: Wait,
     B: BuildHasher,
-> Model for GetFuture<'a, K, V, F, S, A, Li, We, R, B> {
+    N: ListenerWhy<K, Loaded<V>>,
+> Model for GetFuture<'a, K, V, F, S, A, Li, We, R, B, N> {
     ghost use Rattle.std.specs.Prelude.{◌≡◌, IsTrue, false};
     ghost use Rattle.quick_cache_guard.specs.Futures.{IfWaits, has_answered, source_of};
     ghost use Rattle.read_through.specs.Answers.{GivesClones};
@@ -96,11 +101,15 @@ impl<
     We: Weighter<K, V>,
     R: Wait + Clock,
     B: BuildHasher,
-> GetFuture<'a, K, V, F, S, A, Li, We, R, B> {
+    N: ListenerWhy<K, Loaded<V>>,
+> GetFuture<'a, K, V, F, S, A, Li, We, R, B, N>
+where
+    N::State: Drop,
+{
     /// A future that has not begun. It takes no lock.
     pub(crate) fn new(
         rt: &'a R,
-        reading: &'a ReadThrough<K, V, F, S, A, Li, We, B>,
+        reading: &'a ReadThrough<K, V, F, S, A, Li, We, B, N>,
         key: &'a K,
         now: u64,
     ) -> Self
@@ -227,7 +236,7 @@ impl<
     fn load(
         &self,
         guard: &mut Option<
-            PlaceholderGuard<'a, K, Loaded<V>, Fresh<S>, ShardOf<K, V, S, A, We, B>, R, A>,
+            PlaceholderGuard<'a, K, Loaded<V>, Fresh<S, N>, ShardOf<K, V, S, A, We, B, N>, R, A>,
         >,
     ) -> V
         requires same { IfSome guard.old (λ guard. IsTrue (K.eq self.now.key guard)) }
@@ -255,7 +264,11 @@ impl<
     We: Weighter<K, V>,
     R: Wait + Clock,
     B: BuildHasher,
-> Future for GetFuture<'a, K, V, F, S, A, Li, We, R, B> {
+    N: ListenerWhy<K, Loaded<V>>,
+> Future for GetFuture<'a, K, V, F, S, A, Li, We, R, B, N>
+where
+    N::State: Drop,
+{
     type Output = Result<V, Refusal>;
 
     // The loader may be called, and what it gives is the source's.

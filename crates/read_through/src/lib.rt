@@ -13,10 +13,12 @@ mod many;
 mod pace;
 mod reading;
 
+pub use fresh::Fresh;
 pub use future::GetFuture;
 pub use given::{AnySource, Given, Source};
 pub use lives::{ByAnswer, Lives, WithLife};
 pub use quick_cache_expiring::{ByValue, Loaded};
+pub use quick_cache_listeners::{Cause, Ignore, ListenerWhy, OnLeaveWhy};
 pub use quick_cache_model::{Bytes, BytesIn, Refusal, Text, TextIn, UnitWeighter, Weighter};
 pub use quick_cache_options::options::{Error, Options, OptionsBuilder};
 pub use quick_cache_stats::Stats;

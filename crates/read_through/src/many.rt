@@ -9,6 +9,7 @@ use crate::given::Source;
 use crate::lives::Lives;
 use crate::reading::ReadThrough;
 use quick_cache_expiring::Loaded;
+use quick_cache_listeners::ListenerWhy;
 use quick_cache_model::{Refusal, Weighter};
 use std::alloc::{Allocator, Global};
 use std::hash::{BuildHasher, Hash};
@@ -24,7 +25,11 @@ impl<
     Li: Lives<K, V>,
     We: Weighter<K, V>,
     B: BuildHasher,
-> ReadThrough<K, V, F, S, A, Li, We, B> {
+    N: ListenerWhy<K, Loaded<V>>,
+> ReadThrough<K, V, F, S, A, Li, We, B, N>
+where
+    N::State: Drop,
+{
     /// The values of these keys, in their order. What is stored and serves is answered, and clones of
     /// the other keys are given to `load_all`, in their order: one that stands twice among them comes
     /// twice. It is called once, at no key not at all, and under no lock. What it gives, a value for

@@ -5,10 +5,12 @@ ghost use Rattle.quick_cache_options.specs.Options.{default_shards};
 ghost use Rattle.quick_cache_locked.specs.declared.count.Count.{Count};
 ghost use Rattle.read_through.specs.Answers.{IsOf};
 ghost use Rattle.read_through.specs.Counted.{Counted};
+ghost use Rattle.read_through.specs.Reading.{begun};
 
 use crate::fresh::Fresh;
 use crate::given::{AnySource, Source};
 use quick_cache_expiring::{ByValue, Loaded};
+use quick_cache_listeners::{Ignore, ListenerWhy};
 use quick_cache_locked::LockedShard;
 use quick_cache_model::{DefaultHashBuilder, Lifecycle, Refusal, UnitWeighter, Weighter};
 use quick_cache_options::options::Options;
@@ -21,10 +23,18 @@ use std::sync::Wait;
 use std::sync::atomic::{AtomicU64, Ordering};
 
 /// A shard of that cache, as its lock keeps it.
-pub(crate) type ShardOf<K, V, S, A, We, B> = LockedShard<K, Loaded<V>, ByValue<We>, B, Fresh<S>, A>;
+pub(crate) type ShardOf<K, V, S, A, We, B, N> = LockedShard<
+    K,
+    Loaded<V>,
+    ByValue<We>,
+    B,
+    Fresh<S, N>,
+    A,
+>;
 
 /// A loader, `F: Fn(&K, u64) -> V`, and the cache of what it gave, which threads share by reference.
-/// `S` says for contracts what the loader gives, and `Li` how long that lives.
+/// `S` says for contracts what the loader gives, and `Li` how long that lives. `N` is told of what is
+/// evicted, and of what a `put` replaces.
 ///
 /// A moment is any number that its users agree on, as the seconds since some day.
 pub struct ReadThrough<
@@ -36,8 +46,9 @@ pub struct ReadThrough<
     Li = u64,
     We = UnitWeighter,
     B: BuildHasher = DefaultHashBuilder,
+    N: ListenerWhy<K, Loaded<V>> = Ignore,
 > {
-    pub(crate) cache: Cache<K, Loaded<V>, ByValue<We>, B, Fresh<S>, A>,
+    pub(crate) cache: Cache<K, Loaded<V>, ByValue<We>, B, Fresh<S, N>, A>,
     pub(crate) lives: Li,
     pub(crate) grace: u64,
     pub(crate) retry_after: u64,
@@ -61,7 +72,8 @@ impl<
     Li: Drop,
     We: Drop,
     B: BuildHasher + Drop,
-> Drop for ReadThrough<K, V, F, S, A, Li, We, B> {
+    N: ListenerWhy<K, Loaded<V>>,
+> Drop for ReadThrough<K, V, F, S, A, Li, We, B, N> {
     fn drop(self) {
         let ReadThrough {
             cache: _cache,
@@ -77,8 +89,17 @@ impl<
     }
 }
 
-impl<K: Eq + Hash + Drop, V: Drop, F, S: Source<K, V>, A: Allocator, Li, We, B: BuildHasher> Model
-    for ReadThrough<K, V, F, S, A, Li, We, B> {
+impl<
+    K: Eq + Hash + Drop,
+    V: Drop,
+    F,
+    S: Source<K, V>,
+    A: Allocator,
+    Li,
+    We,
+    B: BuildHasher,
+    N: ListenerWhy<K, Loaded<V>>,
+> Model for ReadThrough<K, V, F, S, A, Li, We, B, N> {
     ghost use Rattle.read_through.specs.Reading.{Reading};
 
     ghost Value = { Reading Li F };
@@ -113,10 +134,7 @@ impl<K: Eq + Hash + Drop, V: Drop, F, S: Source<K, V>, A: Allocator, Li> ReadThr
         F: Drop,
         Li: Drop,
         ensures shards { IfOk result (λ made. IsShardCount default_shards capacity made.shards) }
-        ensures lives { IfOk result (λ made. made.lives ≡ lives) }
-        ensures grace { IfOk result (λ made. made.grace ≡ 0) }
-        ensures retry { IfOk result (λ made. made.retry_after ≡ 0) }
-        ensures loader { IfOk result (λ made. made.loader ≡ loader) }
+        ensures made { IfOk result (λ made. made ≡ begun lives loader made.shards) }
         ensures refused { IfErr result (λ refusal. refusal ≡ Refusal.Memory) }
     {
         ReadThrough::with(
@@ -160,10 +178,7 @@ impl<K: Eq + Hash + Drop, V: Drop, F, S: Source<K, V>, A: Allocator, Li, We> Rea
         Li: Drop,
         We: Clone + Drop,
         ensures shards { IfOk result (λ made. IsShardCount default_shards items made.shards) }
-        ensures lives { IfOk result (λ made. made.lives ≡ lives) }
-        ensures grace { IfOk result (λ made. made.grace ≡ 0) }
-        ensures retry { IfOk result (λ made. made.retry_after ≡ 0) }
-        ensures loader { IfOk result (λ made. made.loader ≡ loader) }
+        ensures made { IfOk result (λ made. made ≡ begun lives loader made.shards) }
         ensures refused { IfErr result (λ refusal. refusal ≡ Refusal.Memory) }
     {
         let cache = Cache::with(
@@ -172,44 +187,9 @@ impl<K: Eq + Hash + Drop, V: Drop, F, S: Source<K, V>, A: Allocator, Li, We> Rea
             weight,
             ByValue { weigher },
             DefaultHashBuilder::new(),
-            Fresh::new(),
+            Fresh::new(Ignore),
         )?;
         Ok(ReadThrough::over(cache, lives, loader))
-    }
-
-    /// A loader with an empty cache of these options. The weigher sees key and value alone.
-    ///
-    /// # Errors
-    ///
-    /// As `with`.
-    pub fn with_options(
-        alloc: A,
-        options: Options,
-        weigher: We,
-        lives: Li,
-        loader: F,
-    ) -> Result<Self, Refusal>
-    where
-        A: Clone,
-        F: Drop,
-        Li: Drop,
-        We: Clone + Drop,
-        ensures shards { IfOk result (λ made. IsShardCount options.shards
-            options.estimated_items_capacity made.shards) }
-        ensures lives { IfOk result (λ made. made.lives ≡ lives) }
-        ensures grace { IfOk result (λ made. made.grace ≡ 0) }
-        ensures retry { IfOk result (λ made. made.retry_after ≡ 0) }
-        ensures loader { IfOk result (λ made. made.loader ≡ loader) }
-        ensures refused { IfErr result (λ refusal. refusal ≡ Refusal.Memory) }
-    {
-        ReadThrough::with_builder(
-            alloc,
-            options,
-            weigher,
-            DefaultHashBuilder::new(),
-            lives,
-            loader,
-        )
     }
 }
 
@@ -222,18 +202,22 @@ impl<
     Li,
     We,
     B: BuildHasher,
-> ReadThrough<K, V, F, S, A, Li, We, B> {
-    /// As `with_options`, with the builder by which keys are hashed.
+    N: ListenerWhy<K, Loaded<V>>,
+> ReadThrough<K, V, F, S, A, Li, We, B, N> {
+    /// A loader with an empty cache of these options. The weigher sees key and value alone. The
+    /// listener is told why each value leaves that is evicted, turned away, or replaced by a `put`.
+    /// What a load replaces, and what is removed, it is not told.
     ///
     /// # Errors
     ///
     /// `Memory` where the list of the cache's shards was refused, or a clone of the allocator, the
-    /// weigher or the builder.
-    pub fn with_builder(
+    /// weigher, the builder or the listener.
+    pub fn with_options(
         alloc: A,
         options: Options,
         weigher: We,
         builder: B,
+        listener: N,
         lives: Li,
         loader: F,
     ) -> Result<Self, Refusal>
@@ -243,12 +227,10 @@ impl<
         Li: Drop,
         We: Clone + Drop,
         B: Clone + Drop,
+        N: Clone,
         ensures shards { IfOk result (λ made. IsShardCount options.shards
             options.estimated_items_capacity made.shards) }
-        ensures lives { IfOk result (λ made. made.lives ≡ lives) }
-        ensures grace { IfOk result (λ made. made.grace ≡ 0) }
-        ensures retry { IfOk result (λ made. made.retry_after ≡ 0) }
-        ensures loader { IfOk result (λ made. made.loader ≡ loader) }
+        ensures made { IfOk result (λ made. made ≡ begun lives loader made.shards) }
         ensures refused { IfErr result (λ refusal. refusal ≡ Refusal.Memory) }
     {
         let cache = Cache::with_options(
@@ -256,18 +238,18 @@ impl<
             options,
             ByValue { weigher },
             builder,
-            Fresh::new(),
+            Fresh::new(listener),
         )?;
         Ok(ReadThrough::over(cache, lives, loader))
     }
 
     /// A loader with this cache, which is empty, and no grace.
-    fn over(cache: Cache<K, Loaded<V>, ByValue<We>, B, Fresh<S>, A>, lives: Li, loader: F) -> Self
-        ensures shards { result.shards ≡ cache.shards }
-        ensures lives { result.lives ≡ lives }
-        ensures grace { result.grace ≡ 0 }
-        ensures retry { result.retry_after ≡ 0 }
-        ensures loader { result.loader ≡ loader }
+    fn over(
+        cache: Cache<K, Loaded<V>, ByValue<We>, B, Fresh<S, N>, A>,
+        lives: Li,
+        loader: F,
+    ) -> Self
+        ensures made { result ≡ begun lives loader cache.shards }
     {
         ReadThrough {
             cache,
@@ -285,11 +267,7 @@ impl<
     /// The same, where an old value may be answered for so long after its life as loads of its key
     /// fail.
     pub fn with_grace(mut self, grace: u64) -> Self
-        ensures lives { result.lives ≡ self.lives }
-        ensures grace { result.grace ≡ grace }
-        ensures retry { result.retry_after ≡ self.retry_after }
-        ensures loader { result.loader ≡ self.loader }
-        ensures shards { result.shards ≡ self.shards }
+        ensures { result ≡ record self { grace = grace } }
     {
         self.grace = grace;
         self
@@ -298,11 +276,7 @@ impl<
     /// The same, where a loader that was asked for an old value within the grace is not asked again
     /// for so long; without this call, not again at the same moment.
     pub fn with_retry_after(mut self, retry_after: u64) -> Self
-        ensures lives { result.lives ≡ self.lives }
-        ensures grace { result.grace ≡ self.grace }
-        ensures retry { result.retry_after ≡ retry_after }
-        ensures loader { result.loader ≡ self.loader }
-        ensures shards { result.shards ≡ self.shards }
+        ensures { result ≡ record self { retry_after = retry_after } }
     {
         self.retry_after = retry_after;
         self
@@ -316,6 +290,7 @@ impl<
     pub fn put<R: Wait>(&self, rt: &R, key: K, value: V, now: u64) -> Result<(), Refusal>
     where
         We: Weighter<K, V>,
+        N::State: Drop,
         requires gives { S.gives key now value }
         ensures refused { IfErr result
             (λ refusal. refusal ≡ Refusal.Memory ⊎ refusal ≡ Refusal.SlotsFull) }
@@ -354,13 +329,23 @@ impl<
     pub fn set_capacity<R: Wait>(&self, rt: &R, capacity: u64)
     where
         We: Weighter<K, V>,
+        N::State: Drop,
     {
         self.cache.set_capacity(rt, capacity);
     }
 
+    /// The cache of the values with their moments, for all its calls: walks, saving, `try_` forms,
+    /// writes with a request state for the listener. What is stored by them has to be the source's.
+    /// Looks there are counted by `hits` and `misses` here too.
+    pub fn cache(&self) -> &Cache<K, Loaded<V>, ByValue<We>, B, Fresh<S, N>, A>
+        ensures { result.shards ≡ self.now.shards }
+    {
+        &self.cache
+    }
+
     /// How many values are stored, fresh or not.
     pub fn len<R: Wait>(&self, rt: &R) -> usize
-        ensures answers { Counted We B ⟦<Fresh<S> as Lifecycle<K, Loaded<V>>>⟧ K.eq Count.Items
+        ensures answers { Counted We B ⟦<Fresh<S, N> as Lifecycle<K, Loaded<V>>>⟧ K.eq Count.Items
             self.now.shards result }
     {
         self.cache.len(rt)
@@ -370,17 +355,17 @@ impl<
     /// that found a value that was being loaded counts as a hit. It takes the read lock of each shard
     /// in turn, once for each number, and looks at each slot.
     pub fn stats<R: Wait>(&self, rt: &R) -> Stats
-        ensures entries { Counted We B ⟦<Fresh<S> as Lifecycle<K, Loaded<V>>>⟧ K.eq Count.Items
+        ensures entries { Counted We B ⟦<Fresh<S, N> as Lifecycle<K, Loaded<V>>>⟧ K.eq Count.Items
             self.now.shards result.entries }
-        ensures weight { Counted We B ⟦<Fresh<S> as Lifecycle<K, Loaded<V>>>⟧ K.eq Count.Weight
+        ensures weight { Counted We B ⟦<Fresh<S, N> as Lifecycle<K, Loaded<V>>>⟧ K.eq Count.Weight
             self.now.shards result.weight }
-        ensures capacity { Counted We B ⟦<Fresh<S> as Lifecycle<K, Loaded<V>>>⟧ K.eq Count.Capacity
+        ensures capacity { Counted We B ⟦<Fresh<S, N> as Lifecycle<K, Loaded<V>>>⟧ K.eq Count.Capacity
             self.now.shards result.capacity }
         // Its misses are those of the cache behind it and what was too old; it tells no more hits.
-        ensures misses { (counted : ℕ) × Counted We B ⟦<Fresh<S> as Lifecycle<K, Loaded<V>>>⟧ K.eq
+        ensures misses { (counted : ℕ) × Counted We B ⟦<Fresh<S, N> as Lifecycle<K, Loaded<V>>>⟧ K.eq
             Count.Misses self.now.shards counted
             × (result.misses ≡ min (counted + result.expired) (2 ^ 64 - 1)) }
-        ensures hits { (counted : ℕ) × Counted We B ⟦<Fresh<S> as Lifecycle<K, Loaded<V>>>⟧ K.eq
+        ensures hits { (counted : ℕ) × Counted We B ⟦<Fresh<S, N> as Lifecycle<K, Loaded<V>>>⟧ K.eq
             Count.Hits self.now.shards counted × (result.hits ≤ counted) }
         ensures failed { result.failed_loads ≤ result.loads }
     {

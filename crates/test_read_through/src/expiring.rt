@@ -4,4 +4,5 @@ pub mod passes;
 pub mod rows;
 pub mod shared_rows;
 pub mod storm;
+pub mod tasks;
 pub mod texts;

@@ -1,6 +1,6 @@
 //! Tests of the cache that threads share, by threads and by its calls that do not wait for a lock,
 //! of a caller that knows of each value what its lifecycle says, of lifecycles that are ready made,
-//! and of the traced cache.
+//! of the traced cache, and of the cache with one history.
 //!
 //! What they catch: a `try_` form that always answers contention, and a call that locks and does
 //! nothing, fail in `idle` and in `mixed`. One that acts where another call has the lock, and one
@@ -15,6 +15,8 @@ mod beside;
 #[cfg(test)]
 mod calls;
 pub mod doubles;
+#[cfg(test)]
+mod history;
 #[cfg(test)]
 mod hottest;
 #[cfg(test)]

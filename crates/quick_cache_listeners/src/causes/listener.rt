@@ -7,6 +7,7 @@ ghost use Rattle.quick_cache_listeners.specs.Causes.{cause_at};
 ghost use Rattle.quick_cache_listeners.specs.Requests.{Arms, TellsWhy};
 
 use crate::causes::cause::{Cause, Stage};
+use crate::listener::Ignore;
 use quick_cache_model::{Lifecycle, Queue};
 
 /// Is told of each pair that is evicted, replaced or turned away, and why.
@@ -21,6 +22,13 @@ pub trait ListenerWhy<K, V>: Drop {
     /// Takes a pair that left.
     fn tell(&self, state: &mut Self::State, key: K, val: V, cause: Cause)
         ensures { tells self.now state.old key val cause state.new };
+}
+
+/// Drops what leaves.
+impl<K: Drop, V: Drop> ListenerWhy<K, V> for Ignore {
+    type State = ();
+
+    fn tell(&self, _state: &mut (), _key: K, _val: V, _cause: Cause) {}
 }
 
 /// What a call keeps: the state of its listener or lifecycle, and what its last hook was.

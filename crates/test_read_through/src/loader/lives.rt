@@ -1,8 +1,7 @@
 //! Answers with lives of their own, old answers that are asked for anew, and those that are answered
 //! while a loader fails.
 use crate::loader::hundreds::hundreds;
-use quick_cache_model::DefaultHashBuilder;
-use read_through::{ByAnswer, Given, OptionsBuilder, ReadThrough, Refusal, UnitWeighter, WithLife};
+use read_through::{ByAnswer, Given, ReadThrough, Refusal, WithLife};
 use std::alloc::Global;
 use std::sync::atomic::{AtomicU64, Ordering};
 use std::sync::{Barrier, Wait};
@@ -114,36 +113,11 @@ fn while_a_loader_fails_an_old_answer_is_given(rt: HostRuntime) {
 }
 
 #[test]
-fn a_loader_is_made_with_a_builder(rt: HostRuntime) {
-    let options = expect_ok!(rt; OptionsBuilder::new()
-        .estimated_items_capacity(8)
-        .weight_capacity(8)
-        .build());
-    let loaded: ReadThrough<u64, u64, _> = expect_ok!(rt; ReadThrough::with_builder(
-        rt.alloc(),
-        options,
-        UnitWeighter,
-        DefaultHashBuilder::new(),
-        10,
-        |key: &u64, now: u64| hundreds(*key, now),
-    ));
-    // Asked at 9 it is the value of 5, and at 15 that is over.
-    for (now, value) in [(5, 105), (9, 105), (15, 115)] {
-        expect_eq!(rt; (now, loaded.get(&rt, &1, now)), (now, Ok(value)));
-    }
-}
-
-#[test]
 fn a_loader_that_fails_is_asked_again_after_a_pause(rt: HostRuntime) {
     let calls = AtomicU64::new(0);
-    let options = expect_ok!(rt; OptionsBuilder::new()
-        .estimated_items_capacity(8)
-        .weight_capacity(8)
-        .build());
-    let loaded: ReadThrough<u64, u64, _> = expect_ok!(rt; ReadThrough::with_options(
+    let loaded: ReadThrough<u64, u64, _> = expect_ok!(rt; ReadThrough::new(
         rt.alloc(),
-        options,
-        UnitWeighter,
+        8,
         10,
         |key: &u64, now: u64| -> Result<u64, u64> {
             calls.fetch_add(1, Ordering::SeqCst);

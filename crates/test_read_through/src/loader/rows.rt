@@ -93,10 +93,6 @@ fn what_is_removed_is_loaded_anew(rt: HostRuntime) {
     expect_eq!(rt; loaded.get(&rt, &1, 16), Ok(116));
     // What is put in was loaded at that moment, so to say.
     expect_eq!(rt; (loaded.put(&rt, 1, 7, 20), loaded.get(&rt, &1, 29)), (Ok(()), Ok(7)));
-    loaded.clear(&rt);
-    expect_eq!(rt; (loaded.len(&rt), loaded.get(&rt, &1, 29)), (0, Ok(129)));
-    loaded.set_capacity(&rt, 0);
-    expect_eq!(rt; loaded.len(&rt), 0);
 }
 
 #[test]

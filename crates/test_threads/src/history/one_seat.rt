@@ -1,7 +1,7 @@
 //! The calls of one seat, on each shard, and what they answer.
 ghost use Rattle.std.specs.Prelude.{◌≡◌};
 
-use crate::two_seats::Numbers;
+use crate::history::two_seats::Numbers;
 use quick_cache_history::{Choice, Entered, History, Naming, Recorded};
 use quick_cache_model::{DefaultHashBuilder, Refusal, UnitWeighter};
 use quick_cache_options::OptionsBuilder;

@@ -1,4 +1,4 @@
-use Rattle.test_history.proofs.one_seat.each_call_acts_and_answers.Given as goal
+use Rattle.test_threads.proofs.history.one_seat.each_call_acts_and_answers.Given as goal
 
 -- the history is the one that was just begun
 abbrev pub ghosts-told : goal.ghosts-told
