@@ -11,9 +11,9 @@ ghost use Rattle.quick_cache_timed.specs.Moments.{AtEachMoment, AtMoment};
 use crate::life::millis_of;
 use crate::ticker::Ticker;
 use quick_cache_model::{Refusal, Weighter};
-use read_through::{ListenerWhy, Lives, Loaded, ReadThrough, Source};
+use read_through::{Lives, ReadThrough, Source};
 use std::alloc::{Allocator, Global};
-use std::hash::{BuildHasher, Hash};
+use std::hash::Hash;
 use std::ops::Deref;
 use std::sync::Wait;
 use std::time::{Clock, Duration};
@@ -46,13 +46,8 @@ impl<
     A: Allocator + Clone,
     Li: Lives<K, V>,
     We: Weighter<K, V>,
-    B: BuildHasher,
-    N: ListenerWhy<K, Loaded<V>>,
     T: Ticker,
-> TimedReading<ReadThrough<K, V, F, S, A, Li, We, B, N>, T>
-where
-    N::State: Drop,
-{
+> TimedReading<ReadThrough<K, V, F, S, A, Li, We>, T> {
     /// As `ReadThrough::get`.
     ///
     /// # Errors

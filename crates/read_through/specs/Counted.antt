@@ -10,8 +10,8 @@ use Rattle.read_through.specs.declared.fresh.Fresh.{Fresh}
 use Rattle.quick_cache_expiring.specs.declared.loaded.Loaded.{Loaded}
 
 -- so many of them told this number, one after the other, and this is the sum of what they told
-abbrev pub Counted : {K V S N R : Type 0} (We B : Type 0) → lifecycle.Ghosts (Fresh S N) K (Loaded V) R
+abbrev pub Counted : {K V S R : Type 0} (We B : Type 0) → lifecycle.Ghosts (Fresh S) K (Loaded V) R
     → (K → K → Bool) → Count → (shards total : ℕ) → Type 0
-Counted {K} {V} {S} {N} We B life equal count shards total = AddsUp life equal
-    (λ (shard : Shard K (Loaded V) (ByValue We) B (Fresh S N)) shown.
+Counted {K} {V} {S} We B life equal count shards total = AddsUp life equal
+    (λ (shard : Shard K (Loaded V) (ByValue We) B (Fresh S)) shown.
     Shows count shard.state shown) shards total

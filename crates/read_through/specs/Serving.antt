@@ -28,12 +28,12 @@ module _ {K V : Type 0} (stands_for : K → Bool) (is_clone : V → V → Type 0
     pub is : value ≡ found.value
 
 -- some shard showed so
-abbrev pub ServesYoung : {K V S N R : Type 0} (We B : Type 0) → lifecycle.Ghosts (Fresh S N) K (Loaded V) R
+abbrev pub ServesYoung : {K V S R : Type 0} (We B : Type 0) → lifecycle.Ghosts (Fresh S) K (Loaded V) R
     → (K → K → Bool) → (is_clone : V → V → Type 0) → (stands_for : K → Bool)
     → (life_of : V → ℕ → ℕ) → (refresh_after now : ℕ) → V → Type 0
-ServesYoung {K} {V} {S} {N} We B life equal is_clone stands_for life_of refresh_after now value =
+ServesYoung {K} {V} {S} We B life equal is_clone stands_for life_of refresh_after now value =
     FromSome life equal
-    (λ (shard : Shard K (Loaded V) (ByValue We) B (Fresh S N)).
+    (λ (shard : Shard K (Loaded V) (ByValue We) B (Fresh S)).
     ShowsYoung stands_for is_clone life_of refresh_after now shard.state value)
 
 -- a test of what serves at this moment answers so

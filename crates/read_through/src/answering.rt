@@ -15,7 +15,6 @@ use crate::pace::Pace;
 use crate::reading::{ReadThrough, ShardOf};
 use quick_cache_expiring::Loaded;
 use quick_cache_guard::{EntryResult, GuardResult, LoadingShard, PlaceholderGuard};
-use quick_cache_listeners::ListenerWhy;
 use quick_cache_model::{Lifecycle, Refusal, Weighter};
 use quick_cache_shard::EntryAction;
 use std::alloc::Allocator;
@@ -33,11 +32,7 @@ impl<
     Li: Lives<K, V>,
     We: Weighter<K, V>,
     B: BuildHasher,
-    N: ListenerWhy<K, Loaded<V>>,
-> ReadThrough<K, V, F, S, A, Li, We, B, N>
-where
-    N::State: Drop,
-{
+> ReadThrough<K, V, F, S, A, Li, We, B> {
     /// Answers what is stored and serves, or what the load gives, which is called once at most; and
     /// where the caller takes it, what is within the grace. It is for what `served` does not answer;
     /// where nothing is there, the guard comes of its look.
@@ -191,7 +186,7 @@ where
         V,
         K,
         Loaded<V>,
-        PlaceholderGuard<'a, K, Loaded<V>, Fresh<S, N>, ShardOf<K, V, S, A, We, B, N>, R, A>,
+        PlaceholderGuard<'a, K, Loaded<V>, Fresh<S>, ShardOf<K, V, S, A, We, B>, R, A>,
     >
         requires keys { (copy : K) → K.is_clone key.now copy → IsTrue (K.eq key.now copy) }
         requires clones { GivesClones S.gives V.is_clone }
@@ -251,7 +246,7 @@ where
         requires keys { (copy : K) → K.is_clone key.now copy → IsTrue (K.eq key.now copy) }
         // What is claimed stood under the key, and nobody had asked for it anew.
         ensures claims { IfSome result
-            (Claims ⟦<Fresh<S, N> as Lifecycle<K, Loaded<V>>>⟧.fits (K.eq key.now) pace now) }
+            (Claims ⟦<Fresh<S> as Lifecycle<K, Loaded<V>>>⟧.fits (K.eq key.now) pace now) }
     {
         let claims = |_key: &K, loaded: &mut Loaded<V>| -> EntryAction<Option<u64>>
             ensures chooses { ChoosesToClaim pace now loaded.old result loaded.new }
@@ -304,7 +299,7 @@ where
         requires gave { S.gives key.now now value.now }
         requires clones { GivesClones S.gives V.is_clone }
         // What gave its place stood under the key, and is what was claimed.
-        ensures renews { IsTrue result → Renews ⟦<Fresh<S, N> as Lifecycle<K, Loaded<V>>>⟧.fits
+        ensures renews { IsTrue result → Renews ⟦<Fresh<S> as Lifecycle<K, Loaded<V>>>⟧.fits
             (K.eq key.now) V.is_clone claimed now value.now }
     {
         // One that is gone is not loaded by an entry call, which would count that.
@@ -332,9 +327,9 @@ where
 
     /// Fills by the guard, and where the load failed with the old value while its life and the grace
     /// are not over, which is answered beside the error then.
-    fn fill_or_keep<T: LoadingShard<K, Loaded<V>, Fresh<S, N>, A>, R: Wait, E: Drop>(
+    fn fill_or_keep<T: LoadingShard<K, Loaded<V>, Fresh<S>, A>, R: Wait, E: Drop>(
         &self,
-        guard: &mut Option<PlaceholderGuard<'_, K, Loaded<V>, Fresh<S, N>, T, R, A>>,
+        guard: &mut Option<PlaceholderGuard<'_, K, Loaded<V>, Fresh<S>, T, R, A>>,
         key: &K,
         now: u64,
         old: Loaded<V>,
@@ -410,19 +405,16 @@ fn fill_with<
     K: Eq + Hash + Drop,
     V: Clone + Drop,
     S: Source<K, V>,
-    N: ListenerWhy<K, Loaded<V>>,
-    T: LoadingShard<K, Loaded<V>, Fresh<S, N>, A>,
+    T: LoadingShard<K, Loaded<V>, Fresh<S>, A>,
     R: Wait,
     A: Allocator,
     E: Drop,
 >(
-    guard: &mut Option<PlaceholderGuard<'_, K, Loaded<V>, Fresh<S, N>, T, R, A>>,
+    guard: &mut Option<PlaceholderGuard<'_, K, Loaded<V>, Fresh<S>, T, R, A>>,
     key: &K,
     now: u64,
     loaded: Result<V, E>,
 ) -> Result<Given<V, E>, E>
-where
-    N::State: Drop,
     requires same { IfSome guard.old (λ guard. IsTrue (K.eq key.now guard)) }
     requires gave { IfOk loaded (S.gives key.now now) }
     requires clones { GivesClones S.gives V.is_clone }
@@ -442,18 +434,15 @@ pub(crate) fn store<
     K: Eq + Hash + Drop,
     V: Clone + Drop,
     S: Source<K, V>,
-    N: ListenerWhy<K, Loaded<V>>,
-    T: LoadingShard<K, Loaded<V>, Fresh<S, N>, A>,
+    T: LoadingShard<K, Loaded<V>, Fresh<S>, A>,
     R: Wait,
     A: Allocator,
 >(
-    guard: &mut Option<PlaceholderGuard<'_, K, Loaded<V>, Fresh<S, N>, T, R, A>>,
+    guard: &mut Option<PlaceholderGuard<'_, K, Loaded<V>, Fresh<S>, T, R, A>>,
     key: &K,
     now: u64,
     value: V,
 ) -> V
-where
-    N::State: Drop,
     requires same { IfSome guard.old (λ guard. IsTrue (K.eq key.now guard)) }
     requires gave { S.gives key.now now value }
     requires clones { GivesClones S.gives V.is_clone }
@@ -470,17 +459,14 @@ fn fill_by<
     K: Eq + Hash + Drop,
     V: Clone + Drop,
     S: Source<K, V>,
-    N: ListenerWhy<K, Loaded<V>>,
-    T: LoadingShard<K, Loaded<V>, Fresh<S, N>, A>,
+    T: LoadingShard<K, Loaded<V>, Fresh<S>, A>,
     R: Wait,
     A: Allocator,
 >(
-    guard: &mut Option<PlaceholderGuard<'_, K, Loaded<V>, Fresh<S, N>, T, R, A>>,
+    guard: &mut Option<PlaceholderGuard<'_, K, Loaded<V>, Fresh<S>, T, R, A>>,
     key: &K,
     loaded: &Loaded<V>,
 )
-where
-    N::State: Drop,
     requires same { IfSome guard.old (λ guard. IsTrue (K.eq key.now guard)) }
     requires source { IsOf S.gives K.eq key.now loaded.now.moment loaded.now.value }
     requires clones { GivesClones S.gives V.is_clone }

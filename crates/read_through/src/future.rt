@@ -16,7 +16,6 @@ use futures::task::{Context, Poll};
 use quick_cache_expiring::Loaded;
 use quick_cache_guard::tasks::ValueOrGuard;
 use quick_cache_guard::{EntryResult, PlaceholderGuard, Stage};
-use quick_cache_listeners::{Ignore, ListenerWhy};
 use quick_cache_model::{DefaultHashBuilder, Refusal, Weighter};
 use std::alloc::Allocator;
 use std::hash::{BuildHasher, Hash};
@@ -44,15 +43,12 @@ pub struct GetFuture<
     We: Weighter<K, V>,
     R: Wait,
     B: BuildHasher = DefaultHashBuilder,
-    N: ListenerWhy<K, Loaded<V>> = Ignore,
 > {
     rt: &'a R,
-    reading: &'a ReadThrough<K, V, F, S, A, Li, We, B, N>,
+    reading: &'a ReadThrough<K, V, F, S, A, Li, We, B>,
     key: &'a K,
     now: u64,
-    stage: Stage<
-        ValueOrGuard<'a, 'a, K, K, Loaded<V>, Fresh<S, N>, ShardOf<K, V, S, A, We, B, N>, R, A>,
-    >,
+    stage: Stage<ValueOrGuard<'a, 'a, K, K, Loaded<V>, Fresh<S>, ShardOf<K, V, S, A, We, B>, R, A>>,
 }
 
 impl<
@@ -66,8 +62,7 @@ impl<
     We: Weighter<K, V>,
     R: Wait,
     B: BuildHasher,
-    N: ListenerWhy<K, Loaded<V>>,
-> Model for GetFuture<'a, K, V, F, S, A, Li, We, R, B, N> {
+> Model for GetFuture<'a, K, V, F, S, A, Li, We, R, B> {
     ghost use Rattle.std.specs.Prelude.{◌≡◌, IsTrue, false};
     ghost use Rattle.quick_cache_guard.specs.Futures.{IfWaits, has_answered, source_of};
     ghost use Rattle.read_through.specs.Answers.{GivesClones};
@@ -101,15 +96,11 @@ impl<
     We: Weighter<K, V>,
     R: Wait + Clock,
     B: BuildHasher,
-    N: ListenerWhy<K, Loaded<V>>,
-> GetFuture<'a, K, V, F, S, A, Li, We, R, B, N>
-where
-    N::State: Drop,
-{
+> GetFuture<'a, K, V, F, S, A, Li, We, R, B> {
     /// A future that has not begun. It takes no lock.
     pub(crate) fn new(
         rt: &'a R,
-        reading: &'a ReadThrough<K, V, F, S, A, Li, We, B, N>,
+        reading: &'a ReadThrough<K, V, F, S, A, Li, We, B>,
         key: &'a K,
         now: u64,
     ) -> Self
@@ -236,7 +227,7 @@ where
     fn load(
         &self,
         guard: &mut Option<
-            PlaceholderGuard<'a, K, Loaded<V>, Fresh<S, N>, ShardOf<K, V, S, A, We, B, N>, R, A>,
+            PlaceholderGuard<'a, K, Loaded<V>, Fresh<S>, ShardOf<K, V, S, A, We, B>, R, A>,
         >,
     ) -> V
         requires same { IfSome guard.old (λ guard. IsTrue (K.eq self.now.key guard)) }
@@ -264,11 +255,7 @@ impl<
     We: Weighter<K, V>,
     R: Wait + Clock,
     B: BuildHasher,
-    N: ListenerWhy<K, Loaded<V>>,
-> Future for GetFuture<'a, K, V, F, S, A, Li, We, R, B, N>
-where
-    N::State: Drop,
-{
+> Future for GetFuture<'a, K, V, F, S, A, Li, We, R, B> {
     type Output = Result<V, Refusal>;
 
     // The loader may be called, and what it gives is the source's.

@@ -10,8 +10,6 @@ use crate::future::GetFuture;
 use crate::given::{Given, Source};
 use crate::lives::Lives;
 use crate::reading::ReadThrough;
-use quick_cache_expiring::Loaded;
-use quick_cache_listeners::ListenerWhy;
 use quick_cache_model::{Refusal, ToKey, Weighter};
 use std::alloc::Allocator;
 use std::convert::Infallible;
@@ -28,11 +26,7 @@ impl<
     Li: Lives<K, V>,
     We: Weighter<K, V>,
     B: BuildHasher,
-    N: ListenerWhy<K, Loaded<V>>,
-> ReadThrough<K, V, F, S, A, Li, We, B, N>
-where
-    N::State: Drop,
-{
+> ReadThrough<K, V, F, S, A, Li, We, B> {
     /// The value of the key. One that was loaded at a moment m and has a life is answered while
     /// `now` is below the sum of the two. Else the loader is called, at `now` and under no lock, and
     /// what it gives is stored and answered; it is answered also where it could not be stored. Who
@@ -101,7 +95,7 @@ where
         rt: &'a R,
         key: &'a K,
         now: u64,
-    ) -> GetFuture<'a, K, V, F, S, A, Li, We, R, B, N>
+    ) -> GetFuture<'a, K, V, F, S, A, Li, We, R, B>
     where
         F: Fn(&K, u64) -> V,
         requires keys { (copy : K) → K.is_clone key.now copy → IsTrue (K.eq key.now copy) }

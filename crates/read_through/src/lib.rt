@@ -18,8 +18,9 @@ pub use future::GetFuture;
 pub use given::{AnySource, Given, Source};
 pub use lives::{ByAnswer, Lives, WithLife};
 pub use quick_cache_expiring::{ByValue, Loaded};
-pub use quick_cache_listeners::{Cause, Ignore, ListenerWhy, OnLeaveWhy};
-pub use quick_cache_model::{Bytes, BytesIn, Refusal, Text, TextIn, UnitWeighter, Weighter};
+pub use quick_cache_model::{
+    Bytes, BytesIn, DefaultHashBuilder, Refusal, Text, TextIn, UnitWeighter, Weighter,
+};
 pub use quick_cache_options::options::{Error, Options, OptionsBuilder};
 pub use quick_cache_stats::Stats;
 pub use reading::ReadThrough;

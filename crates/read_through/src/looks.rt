@@ -12,7 +12,6 @@ use crate::given::Source;
 use crate::lives::Lives;
 use crate::reading::ReadThrough;
 use quick_cache_expiring::Loaded;
-use quick_cache_listeners::ListenerWhy;
 use quick_cache_model::{Equivalent, Lifecycle, Refusal};
 use std::alloc::Allocator;
 use std::hash::{BuildHasher, Hash};
@@ -28,8 +27,7 @@ impl<
     Li,
     We,
     B: BuildHasher,
-    N: ListenerWhy<K, Loaded<V>>,
-> ReadThrough<K, V, F, S, A, Li, We, B, N> {
+> ReadThrough<K, V, F, S, A, Li, We, B> {
     /// A clone of the value that is stored under the query's key, where it serves at this moment. No
     /// loader is called, it is no use of the entry, and nothing changes or is counted. It takes the
     /// read lock of the key's shard, under which it asks for the life.
@@ -50,8 +48,8 @@ impl<
         // fresh by the life that the query has.
         ensures fresh { IfOk result (λ found. IfSome found (AnswersFor S.gives K.eq
             (Q.equivalent query.now) (Li.life_of self.now.lives query.now) now)) }
-        ensures shows { FromSome ⟦<Fresh<S, N> as Lifecycle<K, Loaded<V>>>⟧ K.eq
-            (λ (shard : Shard K (Loaded V) (ByValue We) B (Fresh S N)).
+        ensures shows { FromSome ⟦<Fresh<S> as Lifecycle<K, Loaded<V>>>⟧ K.eq
+            (λ (shard : Shard K (Loaded V) (ByValue We) B (Fresh S)).
             ShowsServing (Q.equivalent query.now) V.is_clone
             (Li.life_of self.now.lives query.now) now shard.state result) }
         ensures succeeds { ((value : V) → V.is_infallible value) → IsOk result }
@@ -84,7 +82,7 @@ impl<
         ensures fresh { IfSome result (AnswersFor S.gives K.eq (Q.equivalent query.now)
             (Li.life_of self.now.lives query.now) now) }
         // It stood under the query, and its loader was asked no longer ago than that.
-        ensures young { IfSome result (ServesYoung We B ⟦<Fresh<S, N> as Lifecycle<K, Loaded<V>>>⟧
+        ensures young { IfSome result (ServesYoung We B ⟦<Fresh<S> as Lifecycle<K, Loaded<V>>>⟧
             K.eq V.is_clone (Q.equivalent query.now) (Li.life_of self.now.lives query.now)
             refresh_after now) }
     {

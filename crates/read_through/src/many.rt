@@ -9,7 +9,6 @@ use crate::given::Source;
 use crate::lives::Lives;
 use crate::reading::ReadThrough;
 use quick_cache_expiring::Loaded;
-use quick_cache_listeners::ListenerWhy;
 use quick_cache_model::{Refusal, Weighter};
 use std::alloc::{Allocator, Global};
 use std::hash::{BuildHasher, Hash};
@@ -25,11 +24,7 @@ impl<
     Li: Lives<K, V>,
     We: Weighter<K, V>,
     B: BuildHasher,
-    N: ListenerWhy<K, Loaded<V>>,
-> ReadThrough<K, V, F, S, A, Li, We, B, N>
-where
-    N::State: Drop,
-{
+> ReadThrough<K, V, F, S, A, Li, We, B> {
     /// The values of these keys, in their order. What is stored and serves is answered, and clones of
     /// the other keys are given to `load_all`, in their order: one that stands twice among them comes
     /// twice. It is called once, at no key not at all, and under no lock. What it gives, a value for

@@ -10,7 +10,6 @@ ghost use Rattle.read_through.specs.Reading.{begun};
 use crate::fresh::Fresh;
 use crate::given::{AnySource, Source};
 use quick_cache_expiring::{ByValue, Loaded};
-use quick_cache_listeners::{Ignore, ListenerWhy};
 use quick_cache_locked::LockedShard;
 use quick_cache_model::{DefaultHashBuilder, Lifecycle, Refusal, UnitWeighter, Weighter};
 use quick_cache_options::options::Options;
@@ -23,18 +22,10 @@ use std::sync::Wait;
 use std::sync::atomic::{AtomicU64, Ordering};
 
 /// A shard of that cache, as its lock keeps it.
-pub(crate) type ShardOf<K, V, S, A, We, B, N> = LockedShard<
-    K,
-    Loaded<V>,
-    ByValue<We>,
-    B,
-    Fresh<S, N>,
-    A,
->;
+pub(crate) type ShardOf<K, V, S, A, We, B> = LockedShard<K, Loaded<V>, ByValue<We>, B, Fresh<S>, A>;
 
 /// A loader, `F: Fn(&K, u64) -> V`, and the cache of what it gave, which threads share by reference.
-/// `S` says for contracts what the loader gives, and `Li` how long that lives. `N` is told of what is
-/// evicted, and of what a `put` replaces.
+/// `S` says for contracts what the loader gives, and `Li` how long that lives.
 ///
 /// A moment is any number that its users agree on, as the seconds since some day.
 pub struct ReadThrough<
@@ -46,9 +37,8 @@ pub struct ReadThrough<
     Li = u64,
     We = UnitWeighter,
     B: BuildHasher = DefaultHashBuilder,
-    N: ListenerWhy<K, Loaded<V>> = Ignore,
 > {
-    pub(crate) cache: Cache<K, Loaded<V>, ByValue<We>, B, Fresh<S, N>, A>,
+    pub(crate) cache: Cache<K, Loaded<V>, ByValue<We>, B, Fresh<S>, A>,
     pub(crate) lives: Li,
     pub(crate) grace: u64,
     pub(crate) retry_after: u64,
@@ -72,8 +62,7 @@ impl<
     Li: Drop,
     We: Drop,
     B: BuildHasher + Drop,
-    N: ListenerWhy<K, Loaded<V>>,
-> Drop for ReadThrough<K, V, F, S, A, Li, We, B, N> {
+> Drop for ReadThrough<K, V, F, S, A, Li, We, B> {
     fn drop(self) {
         let ReadThrough {
             cache: _cache,
@@ -89,17 +78,8 @@ impl<
     }
 }
 
-impl<
-    K: Eq + Hash + Drop,
-    V: Drop,
-    F,
-    S: Source<K, V>,
-    A: Allocator,
-    Li,
-    We,
-    B: BuildHasher,
-    N: ListenerWhy<K, Loaded<V>>,
-> Model for ReadThrough<K, V, F, S, A, Li, We, B, N> {
+impl<K: Eq + Hash + Drop, V: Drop, F, S: Source<K, V>, A: Allocator, Li, We, B: BuildHasher> Model
+    for ReadThrough<K, V, F, S, A, Li, We, B> {
     ghost use Rattle.read_through.specs.Reading.{Reading};
 
     ghost Value = { Reading Li F };
@@ -187,7 +167,7 @@ impl<K: Eq + Hash + Drop, V: Drop, F, S: Source<K, V>, A: Allocator, Li, We> Rea
             weight,
             ByValue { weigher },
             DefaultHashBuilder::new(),
-            Fresh::new(Ignore),
+            Fresh::new(),
         )?;
         Ok(ReadThrough::over(cache, lives, loader))
     }
@@ -202,22 +182,19 @@ impl<
     Li,
     We,
     B: BuildHasher,
-    N: ListenerWhy<K, Loaded<V>>,
-> ReadThrough<K, V, F, S, A, Li, We, B, N> {
-    /// A loader with an empty cache of these options. The weigher sees key and value alone. The
-    /// listener is told why each value leaves that is evicted, turned away, or replaced by a `put`.
-    /// What a load replaces, and what is removed, it is not told.
+> ReadThrough<K, V, F, S, A, Li, We, B> {
+    /// A loader with an empty cache of these options, whose keys are hashed by the builder. The weigher
+    /// sees key and value alone.
     ///
     /// # Errors
     ///
     /// `Memory` where the list of the cache's shards was refused, or a clone of the allocator, the
-    /// weigher, the builder or the listener.
+    /// weigher or the builder.
     pub fn with_options(
         alloc: A,
         options: Options,
         weigher: We,
         builder: B,
-        listener: N,
         lives: Li,
         loader: F,
     ) -> Result<Self, Refusal>
@@ -227,7 +204,6 @@ impl<
         Li: Drop,
         We: Clone + Drop,
         B: Clone + Drop,
-        N: Clone,
         ensures shards { IfOk result (λ made. IsShardCount options.shards
             options.estimated_items_capacity made.shards) }
         ensures made { IfOk result (λ made. made ≡ begun lives loader made.shards) }
@@ -238,17 +214,13 @@ impl<
             options,
             ByValue { weigher },
             builder,
-            Fresh::new(listener),
+            Fresh::new(),
         )?;
         Ok(ReadThrough::over(cache, lives, loader))
     }
 
     /// A loader with this cache, which is empty, and no grace.
-    fn over(
-        cache: Cache<K, Loaded<V>, ByValue<We>, B, Fresh<S, N>, A>,
-        lives: Li,
-        loader: F,
-    ) -> Self
+    fn over(cache: Cache<K, Loaded<V>, ByValue<We>, B, Fresh<S>, A>, lives: Li, loader: F) -> Self
         ensures made { result ≡ begun lives loader cache.shards }
     {
         ReadThrough {
@@ -290,7 +262,6 @@ impl<
     pub fn put<R: Wait>(&self, rt: &R, key: K, value: V, now: u64) -> Result<(), Refusal>
     where
         We: Weighter<K, V>,
-        N::State: Drop,
         requires gives { S.gives key now value }
         ensures refused { IfErr result
             (λ refusal. refusal ≡ Refusal.Memory ⊎ refusal ≡ Refusal.SlotsFull) }
@@ -329,23 +300,21 @@ impl<
     pub fn set_capacity<R: Wait>(&self, rt: &R, capacity: u64)
     where
         We: Weighter<K, V>,
-        N::State: Drop,
     {
         self.cache.set_capacity(rt, capacity);
     }
 
-    /// The cache of the values with their moments, for all its calls: walks, saving, `try_` forms,
-    /// writes with a request state for the listener. What is stored by them has to be the source's.
-    /// Looks there are counted by `hits` and `misses` here too.
-    pub fn cache(&self) -> &Cache<K, Loaded<V>, ByValue<We>, B, Fresh<S, N>, A>
-        ensures { result.shards ≡ self.now.shards }
+    /// The cache of the values with their moments, for all its calls: walks, saving, `try_` forms. What
+    /// is stored by them has to be the source's. Looks there are counted by `hits` and `misses` too.
+    pub fn cache(&self) -> &Cache<K, Loaded<V>, ByValue<We>, B, Fresh<S>, A>
+        ensures { result.now.shards ≡ self.now.shards }
     {
         &self.cache
     }
 
     /// How many values are stored, fresh or not.
     pub fn len<R: Wait>(&self, rt: &R) -> usize
-        ensures answers { Counted We B ⟦<Fresh<S, N> as Lifecycle<K, Loaded<V>>>⟧ K.eq Count.Items
+        ensures answers { Counted We B ⟦<Fresh<S> as Lifecycle<K, Loaded<V>>>⟧ K.eq Count.Items
             self.now.shards result }
     {
         self.cache.len(rt)
@@ -355,17 +324,17 @@ impl<
     /// that found a value that was being loaded counts as a hit. It takes the read lock of each shard
     /// in turn, once for each number, and looks at each slot.
     pub fn stats<R: Wait>(&self, rt: &R) -> Stats
-        ensures entries { Counted We B ⟦<Fresh<S, N> as Lifecycle<K, Loaded<V>>>⟧ K.eq Count.Items
+        ensures entries { Counted We B ⟦<Fresh<S> as Lifecycle<K, Loaded<V>>>⟧ K.eq Count.Items
             self.now.shards result.entries }
-        ensures weight { Counted We B ⟦<Fresh<S, N> as Lifecycle<K, Loaded<V>>>⟧ K.eq Count.Weight
+        ensures weight { Counted We B ⟦<Fresh<S> as Lifecycle<K, Loaded<V>>>⟧ K.eq Count.Weight
             self.now.shards result.weight }
-        ensures capacity { Counted We B ⟦<Fresh<S, N> as Lifecycle<K, Loaded<V>>>⟧ K.eq Count.Capacity
+        ensures capacity { Counted We B ⟦<Fresh<S> as Lifecycle<K, Loaded<V>>>⟧ K.eq Count.Capacity
             self.now.shards result.capacity }
         // Its misses are those of the cache behind it and what was too old; it tells no more hits.
-        ensures misses { (counted : ℕ) × Counted We B ⟦<Fresh<S, N> as Lifecycle<K, Loaded<V>>>⟧ K.eq
+        ensures misses { (counted : ℕ) × Counted We B ⟦<Fresh<S> as Lifecycle<K, Loaded<V>>>⟧ K.eq
             Count.Misses self.now.shards counted
             × (result.misses ≡ min (counted + result.expired) (2 ^ 64 - 1)) }
-        ensures hits { (counted : ℕ) × Counted We B ⟦<Fresh<S, N> as Lifecycle<K, Loaded<V>>>⟧ K.eq
+        ensures hits { (counted : ℕ) × Counted We B ⟦<Fresh<S> as Lifecycle<K, Loaded<V>>>⟧ K.eq
             Count.Hits self.now.shards counted × (result.hits ≤ counted) }
         ensures failed { result.failed_loads ≤ result.loads }
     {

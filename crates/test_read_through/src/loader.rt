@@ -2,7 +2,7 @@
 
 pub mod changes;
 pub mod hundreds;
-pub mod leaving;
+pub mod inside;
 pub mod lives;
 pub mod many;
 pub mod refused;

@@ -4,12 +4,12 @@ ghost use Rattle.std.specs.Int.{IsPowerOfTwo};
 
 use quick_cache_expiring::Expiring;
 use quick_cache_expiring_sync::SharedExpiring;
-use quick_cache_listeners::{ByLength, ListenerWhy, OnLeaveWhy};
+use quick_cache_listeners::ByLength;
 use quick_cache_maker::{MakeError, Maker};
 use quick_cache_model::UnitWeighter;
 use quick_cache_sync::Cache as SharedCache;
-use quick_cache_unsync::Cache;
-use read_through::{AnySource, Loaded, ReadThrough};
+use quick_cache_unsync::{Cache, Options, Refusal};
+use read_through::{AnySource, ReadThrough};
 use std::alloc::Global;
 use std::hash::BuildHasher;
 
@@ -71,27 +71,17 @@ pub fn make_loader<F: Drop>(alloc: Global, loader: F) -> Result<ReadThrough<u64,
         .make_read_through(alloc, 60, loader)
 }
 
-/// So they do where a listener is told what leaves and keys are hashed by a builder of one's own, and
-/// there is a power of two of shards.
-pub fn make_loader_that_tells<
-    B: BuildHasher + Clone + Drop,
-    N: ListenerWhy<u64, Loaded<u64>> + Clone,
-    F: Drop,
->(
+/// So they do where keys are hashed by a builder of one's own, and there is a power of two of shards.
+pub fn make_loader_by_builder<B: BuildHasher + Clone + Drop, F: Drop>(
     alloc: Global,
+    options: Options,
     builder: B,
-    listener: N,
     loader: F,
-) -> Result<ReadThrough<u64, u64, F, AnySource, Global, u64, UnitWeighter, B, N>, MakeError>
+) -> Result<ReadThrough<u64, u64, F, AnySource, Global, u64, UnitWeighter, B>, Refusal>
     ensures lives { IfOk result (λ made. made.lives ≡ 60) }
     ensures grace { IfOk result (λ made. made.grace ≡ 0) }
     ensures loader { IfOk result (λ made. made.loader ≡ loader) }
     ensures shards { IfOk result (λ made. IsPowerOfTwo made.shards) }
 {
-    Maker::new()
-        .items(100)
-        .weight(100)
-        .builder(builder)
-        .lifecycle(OnLeaveWhy(listener))
-        .make_read_through(alloc, 60, loader)
+    ReadThrough::with_options(alloc, options, UnitWeighter, builder, 60, loader)
 }
