@@ -1,16 +1,13 @@
 //! What those rely on who ask a loader with its cache, where each answer has a life of its own.
-ghost use Rattle.std.specs.Prelude.{◌≡◌, ◌⊎◌, ◌+◌, ◌<◌, ◌≤◌, ℕ, Err, IfErr, IfNone, IfOk, IfSome, IsTrue};
+ghost use Rattle.std.specs.Prelude.{◌≡◌, ◌⊎◌, ◌+◌, ◌<◌, ◌≤◌, Err, IfErr, IfOk, IfSome, IsTrue};
 ghost use Rattle.quick_cache_guard.specs.Answers.{IsLoadRefusal};
-ghost use Rattle.quick_cache_locked.specs.Locked.{FromSome};
 ghost use Rattle.quick_cache_model.specs.Hashing.{StandsForGiven};
-ghost use Rattle.quick_cache_shard.specs.PlaceWalks.{EndsAt};
-ghost use Rattle.quick_cache_shard.specs.Shard.{Shard};
 ghost use Rattle.read_through.specs.Loads.{LoadsFrom, LoadsOkFrom, LoadsSome};
 
 use futures::Future;
 use futures::task::{Context, Poll};
-use quick_cache_model::{Lifecycle, ToKey};
-use read_through::{ByAnswer, Fresh, Given, Loaded, ReadThrough, Refusal, Source, WithLife};
+use quick_cache_model::ToKey;
+use read_through::{ByAnswer, Given, Loaded, ReadThrough, Refusal, Source, WithLife};
 use std::alloc::Global;
 use std::sync::Wait;
 use std::time::Clock;
@@ -175,20 +172,22 @@ pub fn refresh_or_keep<R: Wait + Clock, F: Fn(&u64, u64) -> Result<WithLife<Addr
     }
 }
 
-/// What is taken out of the cache behind the loader is of its name, with the moment of its load. Where
-/// nothing is, each shard of it was passed.
+/// What is taken out of the cache behind the loader is of its name, with the moment of its load.
 pub fn take_living<R: Wait, F>(
     rt: &R,
     addresses: &Addresses<F>,
 ) -> Option<(u64, Loaded<WithLife<Address>>)>
     ensures name { IfSome result (λ taken. taken.1.value.value.name ≡ taken.0) }
     ensures moment { IfSome result (λ taken. taken.1.value.value.asked ≡ taken.1.moment) }
-    ensures passed { IfNone result ((place : ℕ) → place < addresses.now.shards → FromSome
-        ⟦<Fresh<Server> as Lifecycle<u64, Loaded<WithLife<Address>>>>⟧
-        ⟦<u64 as PartialEq>⟧.eq
-        (λ (shard : Shard _ _ _ _ _). EndsAt shard.places 0)) }
 {
     addresses.cache().drain(rt).next()
+}
+
+/// That cache has the shards that the loader was made with.
+pub fn count_shards_behind<F>(addresses: &Addresses<F>) -> usize
+    ensures { result ≡ addresses.now.shards }
+{
+    addresses.cache().num_shards()
 }
 
 /// A put is refused for want of memory or of a slot.
