@@ -17,13 +17,10 @@ fn its_cache_is_walked_with_the_moments(rt: HostRuntime) {
         10,
         |key: &u64, now: u64| hundreds(*key, now),
     ));
-    for (key, now) in [(1, 5), (2, 6)] {
-        expect_eq!(rt; loaded.get(&rt, &key, now), Ok(hundreds(key, now)));
-    }
-    let mut items = loaded.cache().iter(&rt);
-    let mut shown = 0u64;
-    while let Some(Ok((key, it))) = items.next() {
-        shown = shown.wrapping_add(hundreds(key, it.moment));
-    }
-    expect_eq!(rt; (shown, loaded.cache().len(&rt)), (311, 2));
+    expect_eq!(rt; loaded.get(&rt, &1, 5), Ok(105));
+    let shown = match loaded.cache().iter(&rt).next() {
+        Some(Ok((key, it))) => Some((key, it.value, it.moment)),
+        _ => None,
+    };
+    expect_eq!(rt; (shown, loaded.cache().len(&rt)), (Some((1, 105, 5)), 1));
 }
